@@ -91,7 +91,8 @@ fn next(i: u32, places: u32) -> u32 {
     i.wrapping_add(places) % 63
 }
 
-/// A machine whose module `a` has let module `b` write each second word of its heap area, which is all of RAM behind the first 64 KiB,
+/// A machine whose module `a` has let module `b` write each second word of its heap area, which is all of RAM behind
+/// the first 64 KiB,
 /// and isn't live any more.
 pub fn worst(alloc: Global, kib: u32) -> Option<AnyMachine> {
     if kib < 128 || kib > 65536 {

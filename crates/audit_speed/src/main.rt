@@ -1,6 +1,9 @@
-//! Times audits: `audit_speed KIB`. The first machine has 63 modules, each with gates for four others, in a RAM of 64 MiB, with four
-//! harts. The second one has a RAM of so many KiB, 128 to 65536 and a multiple of 4: a module in it lets another one write each second
-//! word of its heap area, takes the gate into itself away and is left, so that each word of the heap area ends a run of sealed words.
+//! Times audits: `audit_speed KIB`. The first machine has 63 modules, each with gates for four others, in a RAM of 64
+//! MiB, with four
+//! harts. The second one has a RAM of so many KiB, 128 to 65536 and a multiple of 4: a module in it lets another one
+//! write each second
+//! word of its heap area, takes the gate into itself away and is left, so that each word of the heap area ends a run of
+//! sealed words.
 //! It prints what the audits found to stdout, and to stderr the processor time of each.
 #![tactic(auto)]
 

@@ -16,7 +16,8 @@ pub fn fresh(tables: Segments) -> Checker<Segments, 8>
     Checker::new(tables, 1)
 }
 
-/// Makes so many checks of hart 0 at place 5 in domain 1, of the first 1024 words in turn. The answer is how many were allowed.
+/// Makes so many checks of hart 0 at place 5 in domain 1, of the first 1024 words in turn. The answer is how many were
+/// allowed.
 pub fn hits(checker: &mut Checker<Segments, 8>, rounds: u64) -> u64
     requires may { MayLook 0 1 checker.old.harts }
     requires domain { IsDomain (⟦<Segments as PermTables>⟧.maps checker.old.tables) 1 }

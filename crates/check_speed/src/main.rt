@@ -1,4 +1,5 @@
-//! Times checks that a place of the sidecar answers: `check_speed ROUNDS` prints what was answered and counted to stdout, and to
+//! Times checks that a place of the sidecar answers: `check_speed ROUNDS` prints what was answered and counted to
+//! stdout, and to
 //! stderr the processor time that the checks took.
 #![tactic(auto)]
 

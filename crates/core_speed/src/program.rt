@@ -49,7 +49,8 @@ pub fn run(bus: &mut PlainBus, regs: &mut Regs, turns: u64) -> u32 {
     pc
 }
 
-/// As `run`, by three calls of `exec` that follow one another: it makes three turns at a time, and no more than `turns`.
+/// As `run`, by three calls of `exec` that follow one another: it makes three turns at a time, and no more than
+/// `turns`.
 pub fn run_at_three(bus: &mut Elsewhere, regs: &mut Regs, turns: u64) -> u32 {
     let mut pc = START;
     for _ in 0..turns / 3 {

@@ -22,5 +22,6 @@ Stepped f hart new events answer = record {
   others : (h : ℕ) → h ≢ hart → frames_at new.core h ≡ frames_at f.core h;
 }
 
-pub stepped : {f old new : Flat} {hart : ℕ} {out : Events} {answer : TurnKind} → f ≡ old → Stepped old hart new out answer → Stepped f hart new out answer
+pub stepped : {f old new : Flat} {hart : ℕ} {out : Events} {answer : TurnKind} → f ≡ old → Stepped old hart new out answer
+    → Stepped f hart new out answer
 stepped {new = new} {hart} {out} {answer} e s = subst (λ (x : Flat). Stepped x hart new out answer) (sym e) s

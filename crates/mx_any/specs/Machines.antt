@@ -1,7 +1,8 @@
 -- What a machine of any kind of tables and any size of lookaside buffers means.
 use Rattle.mx_model.specs.State.{Flat}
 use Rattle.mx_any.specs.declared.any.AnyMachine.{AnyMachine}
-use Rattle.mx_any.specs.declared.any.AnyMachine.TheVariants.{Segments8, Segments32, Segments64, Multilevel8, Multilevel32, Multilevel64, Packed8, Packed32, Packed64}
+use Rattle.mx_any.specs.declared.any.AnyMachine.TheVariants.{Segments8, Segments32, Segments64, Multilevel8, Multilevel32, Multilevel64}
+use Rattle.mx_any.specs.declared.any.AnyMachine.TheVariants.{Packed8, Packed32, Packed64}
 
 -- the flat state that the machine in it is
 abbrev pub meaning : AnyMachine → Flat

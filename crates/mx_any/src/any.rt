@@ -1,12 +1,14 @@
-//! Machines of any kind of tables and any size of lookaside buffers. In every call that reads one a hart is below `harts()`, a domain
-//! is from 1 to `modules()`, and a word is below `words()`, a byte's place below 4 times that. A place in a list may be any number.
+//! Machines of any kind of tables and any size of lookaside buffers. In every call that reads one a hart is below
+//! `harts()`, a domain
+//! is from 1 to `modules()`, and a word is below `words()`, a byte's place below 4 times that. A place in a list may be
+//! any number.
 
 ghost use Rattle.mx_coherence.specs.Coherence.{KeepsNoStaleSpan, flat_coherent};
 ghost use Rattle.mx_heap.specs.HeapState.{area_of};
 ghost use Rattle.mx_laws.specs.After.{frames_at};
 ghost use Rattle.mx_laws.specs.Crossing.{FramesAfter};
 ghost use Rattle.mx_laws.specs.Foreign.{ForeignAfter};
-ghost use Rattle.mx_machine.specs.Readings.{IsAreaOf, IsPlaceOf, IsViewOf, was_heard};
+ghost use Rattle.mx_machine.specs.Readings.{IsAreaOf, IsPlaceOf, IsViewOf, exit_of, was_heard};
 ghost use Rattle.mx_machine.specs.Turning.{IsTold, IsTurn, KeepsBytes};
 ghost use Rattle.mx_model.specs.Checks.{is_halted};
 ghost use Rattle.mx_model.specs.Reads.{flat_reads, map_in};
@@ -16,7 +18,8 @@ ghost use Rattle.mx_model.specs.Valid.{IsModule, IsValid};
 ghost use Rattle.mx_words.specs.Need.{need};
 ghost use Rattle.mx_words.specs.Reach.{stored};
 ghost use Rattle.std.specs.Option.{option_map};
-ghost use Rattle.std.specs.Prelude.{◌≡◌, ◌≢◌, ℕ, ◌+◌, ◌-◌, ◌*◌, ◌^◌, ◌<◌, ◌≤◌, false, length, slice_get, slice_index, slice_range};
+ghost use Rattle.std.specs.Prelude.{◌≡◌, ◌≢◌, ℕ, ◌+◌, ◌-◌, ◌*◌, ◌^◌, ◌<◌, ◌≤◌, false, length, slice_get, slice_index};
+ghost use Rattle.std.specs.Prelude.{slice_range};
 ghost use Rattle.mx_any.specs.Machines.{meaning};
 
 use mx_check::Counts;
@@ -74,11 +77,14 @@ macro_rules! each {
 fn end<T: PermTables + Drop, const N: usize>(_machine: Machine<T, N>) {}
 
 impl AnyMachine {
-    /// One turn of the hart of that number, which may be none (docs/MACHINE.md, "One turn"). What stood in `out` is dropped; the
+    /// One turn of the hart of that number, which may be none (docs/MACHINE.md, "One turn"). What stood in `out` is
+    /// dropped; the
     /// console bytes and the note of the turn are put there. Fewer than 2^64 - 1 turns were made.
     ///
-    /// Isolation: the turn leaves the words that the hart's domain may not write, but for a new block of an alloc, which lies in the
-    /// domain's own heap area and is zero; and it keeps the hart's frames, pushes one with its fifteen registers, or gives up the top
+    /// Isolation: the turn leaves the words that the hart's domain may not write, but for a new block of an alloc,
+    /// which lies in the
+    /// domain's own heap area and is zero; and it keeps the hart's frames, pushes one with its fifteen registers, or
+    /// gives up the top
     /// one and goes on as that says.
     pub fn step(&mut self, hart: u32, out: &mut Events) -> TurnKind
         requires { (meaning self.old).core.turns < 2 ^ 64 - 1 }
@@ -149,6 +155,14 @@ impl AnyMachine {
         each!(self, machine => machine.place(hart))
     }
 
+    /// The code of the exit that ended a hart, where one did.
+    pub fn exit(&self, hart: u32) -> Option<u32>
+        requires { hart < length (meaning self.now).core.harts }
+        ensures { result ≡ exit_of (hart_at (meaning self.now).core hart).status }
+    {
+        each!(self, machine => machine.exit(hart))
+    }
+
     /// The registers x0 to x31 of a hart.
     pub fn regs(&self, hart: u32) -> &[u32; 32]
         requires { hart < length (meaning self.now).core.harts }
@@ -166,7 +180,8 @@ impl AnyMachine {
         each!(self, machine => machine.perm(domain, word))
     }
 
-    /// What a walk of the tables answers for a domain and a word: a span round the word on which the domain has one permission.
+    /// What a walk of the tables answers for a domain and a word: a span round the word on which the domain has one
+    /// permission.
     pub fn span(&self, domain: u32, word: u32) -> Span
         requires domain { IsModule (length (meaning self.now).core.modules) domain }
         requires word { word < (meaning self.now).core.size }
@@ -280,7 +295,8 @@ impl AnyMachine {
         each!(self, machine => machine.gate(i))
     }
 
-    /// The live block of a domain at place `i`, in the order of their addresses. `None` exactly where no more than `i` live.
+    /// The live block of a domain at place `i`, in the order of their addresses. `None` exactly where no more than `i`
+    /// live.
     pub fn block(&self, domain: u32, i: u32) -> Option<Block>
         requires { IsModule (length (meaning self.now).core.modules) domain }
         ensures { option_map area_of result
@@ -297,7 +313,8 @@ impl AnyMachine {
         each!(self, machine => machine.heap_area(domain))
     }
 
-    /// Frame `i` of a hart, from the bottom of its cross stack. `None` exactly where `i` isn't below the number of frames.
+    /// Frame `i` of a hart, from the bottom of its cross stack. `None` exactly where `i` isn't below the number of
+    /// frames.
     pub fn frame(&self, hart: u32, i: u32) -> Option<Frame>
         requires { hart < length (meaning self.now).core.harts }
         ensures { result ≡ slice_get (hart_at (meaning self.now).core hart).frames i }
@@ -322,14 +339,16 @@ impl AnyMachine {
         each!(self, machine => machine.stack_area(domain))
     }
 
-    /// Lets the machine go, with the memory that it holds. A caller whose value goes out of scope does the same; this call keeps the
+    /// Lets the machine go, with the memory that it holds. A caller whose value goes out of scope does the same; this
+    /// call keeps the
     /// drop of nine kinds of machines out of the caller's proof.
     pub fn end(self) {
         each!(self, machine => end(machine))
     }
 }
 
-/// A law: what a machine means is valid, and has a map for each module, each as long as RAM, and an owner for each word.
+/// A law: what a machine means is valid, and has a map for each module, each as long as RAM, and an owner for each
+/// word.
 pub fn any_machine_is_valid(any: &AnyMachine)
     ensures valid { IsValid (meaning any.now).core }
     ensures maps { length (meaning any.now).maps ≡ length (meaning any.now).core.modules }
@@ -341,7 +360,8 @@ pub fn any_machine_is_valid(any: &AnyMachine)
     each!(any, machine => machine_is_valid(machine))
 }
 
-/// A law: the caches of what a machine means are coherent: each hart that isn't halted has on each word of each span that it keeps the
+/// A law: the caches of what a machine means are coherent: each hart that isn't halted has on each word of each span
+/// that it keeps the
 /// permission that the span says, and none of its spans meets the range of a call in flight that it has heard.
 pub fn any_harts_are_current(any: &AnyMachine)
     ensures coherent { flat_coherent (meaning any.now) }

@@ -17,7 +17,8 @@ use mx_machine::HartStatus;
 use mx_words::{Access, word_of};
 
 impl AnyMachine {
-    /// The instruction at a hart's pc. `None` exactly where the hart is halted, where its domain may not fetch there, and where the
+    /// The instruction at a hart's pc. `None` exactly where the hart is halted, where its domain may not fetch there,
+    /// and where the
     /// word there is no instruction.
     pub fn instruction(&self, hart: u32) -> Option<Inst>
         requires { hart < length (meaning self.now).core.harts }
@@ -33,7 +34,8 @@ impl AnyMachine {
         }
     }
 
-    /// The instruction at an address, a multiple of 4. `None` exactly where the domain may not fetch there, and where the word there is
+    /// The instruction at an address, a multiple of 4. `None` exactly where the domain may not fetch there, and where
+    /// the word there is
     /// no instruction.
     fn standing(&self, domain: u32, pc: u32) -> Option<Inst>
         requires domain { IsModule (length (meaning self.now).core.modules) domain }

@@ -18,15 +18,18 @@ extended_12 : (negative : Bool) (m : ℕ) → m ≤ cond negative 2048 2047 → 
 extended_12 false m h = inl (omega arith)
 extended_12 true m h = ⊎_elim (λ more. inr (omega arith, omega arith)) (λ none. inl (omega arith)) (cases_lt 0 m)
 
-offset_13 : (negative : Bool) (m : ℕ) → m ≤ cond negative 4096 4095 → m % 2 ≡ 0 → IsOffset 13 (cond negative ((2 ^ 32 - m) % 2 ^ 32) (m % 2 ^ 32))
+offset_13 : (negative : Bool) (m : ℕ) → m ≤ cond negative 4096 4095 → m % 2 ≡ 0
+    → IsOffset 13 (cond negative ((2 ^ 32 - m) % 2 ^ 32) (m % 2 ^ 32))
 offset_13 false m h even = (inl (omega arith), omega arith)
 offset_13 true m h even = (⊎_elim (λ more. inr (omega arith, omega arith)) (λ none. inl (omega arith)) (cases_lt 0 m), omega arith)
 
-offset_21 : (negative : Bool) (m : ℕ) → m ≤ cond negative 0x100000 0xFFFFF → m % 2 ≡ 0 → IsOffset 21 (cond negative ((2 ^ 32 - m) % 2 ^ 32) (m % 2 ^ 32))
+offset_21 : (negative : Bool) (m : ℕ) → m ≤ cond negative 0x100000 0xFFFFF → m % 2 ≡ 0
+    → IsOffset 21 (cond negative ((2 ^ 32 - m) % 2 ^ 32) (m % 2 ^ 32))
 offset_21 false m h even = (inl (omega arith), omega arith)
 offset_21 true m h even = (⊎_elim (λ more. inr (omega arith, omega arith)) (λ none. inl (omega arith)) (cases_lt 0 m), omega arith)
 
-below_most : (negative : Bool) (m high : ℕ) → high < 2 ^ 32 → m ≤ cond negative 0 high → cond negative ((2 ^ 32 - m) % 2 ^ 32) (m % 2 ^ 32) ≤ high
+below_most : (negative : Bool) (m high : ℕ) → high < 2 ^ 32 → m ≤ cond negative 0 high
+    → cond negative ((2 ^ 32 - m) % 2 ^ 32) (m % 2 ^ 32) ≤ high
 below_most false m high small h = omega arith
 below_most true m high small h = omega arith
 
@@ -36,7 +39,8 @@ upper_imm bits = (omega arith, omega arith)
 module _ (n : Number) where
   -- what lies in a range
   most_of : (range : Range) → fits range n ≡ true → n.magnitude ≤ cond n.negative range.low range.high
-  most_of range h = leb-true n.magnitude (cond n.negative range.low range.high) (and_parts (nat_le n.magnitude (cond n.negative range.low range.high)) _ h).0
+  most_of range h = leb-true n.magnitude (cond n.negative range.low range.high)
+      (and_parts (nat_le n.magnitude (cond n.negative range.low range.high)) _ h).0
 
   even_of : (low high : ℕ) → fits (record { low = low; high = high; even = true }) n ≡ true → n.magnitude % 2 ≡ 0
   even_of low high h = eqb-true (n.magnitude % 2) 0 (and_parts (nat_le n.magnitude (cond n.negative low high)) (n.magnitude % 2 == 0) h).1
@@ -59,7 +63,12 @@ module _ (n : Number) where
   inst_valid Auipc f r h = (r.rd, upper_imm (number_bits n))
   inst_valid Jal f r h = (r.rd, offset_21 n.negative n.magnitude (most_of (range_of Jal) h) (even_of 0x100000 0xFFFFF h))
   inst_valid Jalr f r h = (r.rd, r.rs1, extended_12 n.negative n.magnitude (most_of (range_of Jalr) h))
-  inst_valid (Branch cond) f r h = (r.rs1, r.rs2, offset_13 n.negative n.magnitude (most_of (range_of (Branch cond)) h) (even_of 4096 4095 h))
+  inst_valid (Branch cond) f r h = (
+    r.rs1,
+    r.rs2,
+    offset_13 n.negative n.magnitude (most_of (range_of (Branch cond)) h)
+        (even_of 4096 4095 h),
+  )
   inst_valid (Load width) f r h = (r.rd, r.rs1, extended_12 n.negative n.magnitude (most_of (range_of (Load width)) h))
   inst_valid (Store width) f r h = (r.rs1, r.rs2, extended_12 n.negative n.magnitude (most_of (range_of (Store width)) h))
   inst_valid (OpImm op) f r h = (r.rd, r.rs1, operand_valid op h)

@@ -1,5 +1,6 @@
 -- Laws of labels in the map.
-use Rattle.std.proofs.Common.{◌≡◌, ℕ, Bool, true, false, cond, List, [], ◌∷◌, ◌++◌, map, Option, Some, option_map, is_some, refl, ap, sym, ◌∙◌, bytes_eq}
+use Rattle.std.proofs.Common.{◌≡◌, ℕ, Bool, true, false, cond, List, [], ◌∷◌, ◌++◌, map, Option, Some, option_map, is_some, refl, ap, sym}
+use Rattle.std.proofs.Common.{◌∙◌, bytes_eq}
 use Rattle.std.specs.Borrow.{Bor}
 use Rattle.std.specs.Map.{lookup}
 use Rattle.std.proofs.lemmas.Slice.Eq.{bytes_eq-Decides}
@@ -13,7 +14,8 @@ use Rattle.mx_asm.specs.LabelViews.{definition_view, entry_view}
 found_at : (name : List ℕ) (e : Bor (List ℕ) × LabelPlace) (es : List (Bor (List ℕ) × LabelPlace))
     → option_map (definition_view name) (lookup (λ k. bytes_eq name k.now) es) ≡ definition_of (map entry_view es) name
     → (b : Bool) → bytes_eq name e.0.now ≡ b
-    → option_map (definition_view name) (cond b (Some e.1) (lookup (λ k. bytes_eq name k.now) es)) ≡ cond b (Some (entry_view e)) (definition_of (map entry_view es) name)
+    → option_map (definition_view name) (cond b (Some e.1) (lookup (λ k. bytes_eq name k.now) es))
+    ≡ cond b (Some (entry_view e)) (definition_of (map entry_view es) name)
 found_at name e es rest true same = ap (λ n. Some (definition_view n e.1)) ((bytes_eq-Decides name e.0.now).0 same)
 found_at name e es rest false same = rest
 
@@ -25,13 +27,16 @@ lookup-labels name (e ∷ es) = found_at name e es (lookup-labels name es) (byte
 
 -- a new name goes last
 new_at : (k : Bor (List ℕ)) (v : LabelPlace) (e : Bor (List ℕ) × LabelPlace) (es : List (Bor (List ℕ) × LabelPlace))
-    → (is_some (definition_of (map entry_view es) k.now) ≡ false → map entry_view (insert_entry (λ x y. bytes_eq x.now y.now) es k v) ≡ map entry_view es ++ entry_view (k, v) ∷ [])
+    → (is_some (definition_of (map entry_view es) k.now) ≡ false
+    → map entry_view (insert_entry (λ x y. bytes_eq x.now y.now) es k v) ≡ map entry_view es ++ entry_view (k, v) ∷ [])
     → (b : Bool) → is_some (cond b (Some (entry_view e)) (definition_of (map entry_view es) k.now)) ≡ false
-    → map entry_view (cond b ((e.0, v) ∷ es) (e ∷ insert_entry (λ x y. bytes_eq x.now y.now) es k v)) ≡ map entry_view (e ∷ es) ++ entry_view (k, v) ∷ []
+    → map entry_view (cond b ((e.0, v) ∷ es) (e ∷ insert_entry (λ x y. bytes_eq x.now y.now) es k v)) ≡ map entry_view (e ∷ es)
+    ++ entry_view (k, v) ∷ []
 new_at k v e es rest true new = cc
 new_at k v e es rest false new = ap (λ l. entry_view e ∷ l) (rest new)
 
-pub insert-labels : (k : Bor (List ℕ)) (v : LabelPlace) (es : List (Bor (List ℕ) × LabelPlace)) → is_some (definition_of (map entry_view es) k.now) ≡ false
+pub insert-labels : (k : Bor (List ℕ)) (v : LabelPlace) (es : List (Bor (List ℕ) × LabelPlace))
+    → is_some (definition_of (map entry_view es) k.now) ≡ false
     → map entry_view (insert_entry (λ x y. bytes_eq x.now y.now) es k v) ≡ map entry_view es ++ entry_view (k, v) ∷ []
 unfolding definition_of
 insert-labels k v [] new = refl
@@ -43,5 +48,6 @@ pub with_name-new : (k : Bor (List ℕ)) (v : LabelPlace) (es : List (Bor (List 
     → map entry_view (insert_entry (λ x y. bytes_eq x.now y.now) es k v) ≡ with_name (Some k.now) v.address v.line (map entry_view es)
 unfolding with_name
 with_name-new k v es found told none =
-    let new : is_some (definition_of (map entry_view es) k.now) ≡ false = sym (ap is_some told) ∙ is_some-map (definition_view k.now) found ∙ none in
+    let new : is_some (definition_of (map entry_view es) k.now) ≡ false = sym (ap is_some told) ∙ is_some-map (definition_view k.now) found
+    ∙ none in
     rw new (insert-labels k v es new)

@@ -1,5 +1,6 @@
 -- Laws of the lines of a text.
-use Rattle.std.proofs.Common.{◌≡◌, ◌==◌, ℕ, suc, ◌+◌, ◌-◌, ◌*◌, ◌^◌, ◌<◌, ◌≤◌, Bool, true, false, cond, List, [], ◌∷◌, length, get_or, take, drop, refl, ap, sym, ◌∙◌, arith, zero, slice_index}
+use Rattle.std.proofs.Common.{◌≡◌, ◌==◌, ℕ, suc, ◌+◌, ◌-◌, ◌*◌, ◌^◌, ◌<◌, ◌≤◌, Bool, true, false, cond, List, [], ◌∷◌, length, get_or, take}
+use Rattle.std.proofs.Common.{drop, refl, ap, sym, ◌∙◌, arith, zero, slice_index}
 use Rattle.std.proofs.lemmas.List.{at_drop_more, length-take}
 use Rattle.std.specs.List.{slice_split, onto_first, AllByRecursion}
 use Rattle.mx_asm.specs.declared.places.Place.{Place}
@@ -14,17 +15,20 @@ pub split-cons : (bs : List ℕ) → (x : List ℕ) × (more : List (List ℕ)) 
 split-cons [] = ([], [], refl)
 split-cons (b ∷ bs) =
     let r = split-cons bs in
-    elim (ends_line b) as (λ e. (x : List ℕ) × (more : List (List ℕ)) × (cond e ([] ∷ slice_split ends_line bs) (onto_first b (slice_split ends_line bs)) ≡ x ∷ more))
+    elim (ends_line b) as (λ e. (x : List ℕ) × (more : List (List ℕ))
+    × (cond e ([] ∷ slice_split ends_line bs) (onto_first b (slice_split ends_line bs)) ≡ x ∷ more))
     [ true ↦ ([], slice_split ends_line bs, refl) | false ↦ (b ∷ r.0, r.1, ap (onto_first b) r.2) ]
 
 -- one more character in the first part
-more_first : (b : ℕ) (x : List ℕ) (more : List (List ℕ)) (n : ℕ) → length (lines_of_parts (x ∷ more)) ≤ n → length (lines_of_parts ((b ∷ x) ∷ more)) ≤ suc n
+more_first : (b : ℕ) (x : List ℕ) (more : List (List ℕ)) (n : ℕ) → length (lines_of_parts (x ∷ more)) ≤ n
+    → length (lines_of_parts ((b ∷ x) ∷ more)) ≤ suc n
 more_first b x [] n h =
     elim (length (b ∷ x) == 0) as (λ e. length (cond e [] ((b ∷ x) ∷ [])) ≤ suc n) [ true ↦ omega arith | false ↦ omega arith ]
 more_first b x (y ∷ more) n h = omega (arith, h)
 
 -- one more line end
-more_line : (x : List ℕ) (more : List (List ℕ)) (n : ℕ) → length (lines_of_parts (x ∷ more)) ≤ n → length (lines_of_parts ([] ∷ x ∷ more)) ≤ suc n
+more_line : (x : List ℕ) (more : List (List ℕ)) (n : ℕ) → length (lines_of_parts (x ∷ more)) ≤ n
+    → length (lines_of_parts ([] ∷ x ∷ more)) ≤ suc n
 more_line x more n h = omega (arith, h)
 
 -- each line takes a character of the text
@@ -34,7 +38,8 @@ length-lines (b ∷ bs) =
     let r = split-cons bs in
     let e : slice_split ends_line bs ≡ r.0 ∷ r.1 = r.2 in
     let h : length (lines_of_parts (r.0 ∷ r.1)) ≤ length bs = rw r.2 at (length-lines bs) in
-    elim (ends_line b) as (λ t. length (lines_of_parts (cond t ([] ∷ slice_split ends_line bs) (onto_first b (slice_split ends_line bs)))) ≤ length (b ∷ bs))
+    elim (ends_line b) as (λ t. length (lines_of_parts (cond t ([] ∷ slice_split ends_line bs) (onto_first b (slice_split ends_line bs))))
+    ≤ length (b ∷ bs))
     [ true ↦ rw e (more_line r.0 r.1 (length bs) h) | false ↦ rw e (more_first b r.0 r.1 (length bs) h) ]
 
 -- a list of lists of which none is longer
@@ -52,8 +57,12 @@ short_onto b (x ∷ xs) n h = (omega (arith, h.0), longer_too xs n h.1)
 short_parts : (bs : List ℕ) → AreShort (length bs) (slice_split ends_line bs)
 short_parts [] = (omega arith, tt)
 short_parts (b ∷ bs) =
-    elim (ends_line b) as (λ t. AreShort (length (b ∷ bs)) (cond t ([] ∷ slice_split ends_line bs) (onto_first b (slice_split ends_line bs))))
-    [ true ↦ (omega arith, longer_too (slice_split ends_line bs) (length bs) (short_parts bs)) | false ↦ short_onto b (slice_split ends_line bs) (length bs) (short_parts bs) ]
+    elim (ends_line b) as (λ t. AreShort (length (b ∷ bs)) (cond t ([] ∷ slice_split ends_line bs)
+    (onto_first b (slice_split ends_line bs)))) [
+      | true ↦ (omega arith, longer_too (slice_split ends_line bs) (length bs) (short_parts bs))
+      | false ↦
+          short_onto b (slice_split ends_line bs) (length bs) (short_parts bs)
+    ]
 
 short_strip : (x : List ℕ) (n : ℕ) → length x ≤ n → length (strip_carriage_return x) ≤ n
 short_strip x n h =
@@ -76,11 +85,13 @@ pub record IsLineAt (source : List ℕ) (k : ℕ) (text : List ℕ) : Type 0 whe
   pub short : length text ≤ length source
   pub few : k < length source
 
-pub line_at : (source : List ℕ) (k : ℕ) (text : List ℕ) → (k < length (lines source)) × (text ≡ get_or (lines source) k text) → IsLineAt source k text
+pub line_at : (source : List ℕ) (k : ℕ) (text : List ℕ) → (k < length (lines source)) × (text ≡ get_or (lines source) k text)
+    → IsLineAt source k text
 line_at source k text h =
     record {
       next = at_drop_more (λ l. l) (lines source) k text h.0 ∙ ap (λ x. x ∷ drop (k + 1) (lines source)) (sym h.1);
-      short = rw h.1 (short_at (lines source) (length source) k text h.0 (short_of_parts (slice_split ends_line source) (length source) (short_parts source)));
+      short = rw h.1 (short_at (lines source) (length source) k text h.0
+          (short_of_parts (slice_split ends_line source) (length source) (short_parts source)));
       few = omega (arith, h.0, length-lines source);
     }
 

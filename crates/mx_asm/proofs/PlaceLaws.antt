@@ -1,5 +1,6 @@
 -- What a line without faults keeps: the segments of the program so far, and the place after them.
-use Rattle.std.proofs.Common.{◌≡◌, ◌==◌, ℕ, ◌-◌, ◌^◌, ◌<◌, ◌≤◌, Bool, true, false, cond, not, ◌&&◌, ◌||◌, List, [], ◌∷◌, length, map, refl, arith, Option, None, Some, IsSome, is_some, nat_le}
+use Rattle.std.proofs.Common.{◌≡◌, ◌==◌, ℕ, ◌-◌, ◌^◌, ◌<◌, ◌≤◌, Bool, true, false, cond, not, ◌&&◌, ◌||◌, List, [], ◌∷◌, length, map, refl}
+use Rattle.std.proofs.Common.{arith, Option, None, Some, IsSome, is_some, nat_le}
 use Rattle.std.specs.Option.{option_map_or}
 use Rattle.std.proofs.lemmas.Bool.{leb-true, and_parts}
 use Rattle.std.proofs.lemmas.List.{length-map, length-replicate}
@@ -25,7 +26,8 @@ pub record IsPlain (label : Option (List ℕ)) (keyword : Keyword) (operands : L
   pub sixteenth : (begins_segment keyword && nat_le 16 place.segments) ≡ false
   pub room : is_full label place (size_of keyword operands place.here) ≡ false
 
-pub place_plain : (label : Option (List ℕ)) (keyword : Keyword) (operands : List (List ℕ)) (place : Place) → place_fault label keyword operands place ≡ None → IsPlain label keyword operands place
+pub place_plain : (label : Option (List ℕ)) (keyword : Keyword) (operands : List (List ℕ)) (place : Place)
+    → place_fault label keyword operands place ≡ None → IsPlain label keyword operands place
 unfolding place_fault
 place_plain label keyword operands place h =
     let a = row_none _ 6 _ h in
@@ -40,16 +42,19 @@ below_at true m h = omega arith
 below_at false m h = omega arith
 
 -- an address without fault
-number_below : (found : Option Number) → kind_fault (λ n. cond (fits address_range n) None (Some 3)) found ≡ None → option_map_or (λ n. n.magnitude) found 0 < 2 ^ 32
+number_below : (found : Option Number) → kind_fault (λ n. cond (fits address_range n) None (Some 3)) found ≡ None
+    → option_map_or (λ n. n.magnitude) found 0 < 2 ^ 32
 number_below None h = cc
-number_below (Some n) h = below_at n.negative n.magnitude (leb-true n.magnitude (cond n.negative 0 0xFFFFFFFF) (and_parts (nat_le n.magnitude (cond n.negative 0 0xFFFFFFFF)) true (withheld (fits address_range n) 3 h)).0)
+number_below (Some n) h = below_at n.negative n.magnitude (leb-true n.magnitude (cond n.negative 0 0xFFFFFFFF)
+    (and_parts (nat_le n.magnitude (cond n.negative 0 0xFFFFFFFF)) true (withheld (fits address_range n) 3 h)).0)
 
 pub address_below : (operands : List (List ℕ)) → address_fault operands ≡ None → address_of operands < 2 ^ 32
 unfolding address_of
 address_below operands h = number_below (address_number operands) h
 
 -- the size is the number of bytes
-pair_size : (labels : List Definition) (found : Option Fields) → IsSome found → length (option_map_or (λ f. words (pair_words labels f)) found []) ≡ 8
+pair_size : (labels : List Definition) (found : Option Fields) → IsSome found
+    → length (option_map_or (λ f. words (pair_words labels f)) found []) ≡ 8
 pair_size labels None h = cc
 pair_size labels (Some f) h = refl
 
@@ -57,15 +62,22 @@ inst_size : (found : Option Fields) (word : Fields → ℕ) → IsSome found →
 inst_size None word h = cc
 inst_size (Some f) word h = refl
 
-pub length-bytes_of : (labels : List Definition) (here : ℕ) (keyword : Keyword) (operands : List (List ℕ)) → operand_fault labels keyword operands ≡ None
+pub length-bytes_of : (labels : List Definition) (here : ℕ) (keyword : Keyword) (operands : List (List ℕ))
+    → operand_fault labels keyword operands ≡ None
     → length (bytes_of labels here keyword operands) ≡ size_of keyword operands here
 unfolding bytes_of size_of operand_fault
 length-bytes_of labels here Text operands h = refl
 length-bytes_of labels here Data operands h = refl
 length-bytes_of labels here At operands h = length-replicate (address_of operands - here) 0
-length-bytes_of labels here Word operands h = omega (arith, length-words (map (word_of_value labels) operands), length-map operands (word_of_value labels))
+length-bytes_of labels here Word operands h = omega (
+  arith,
+  length-words (map (word_of_value labels) operands),
+  length-map operands
+      (word_of_value labels),
+)
 length-bytes_of labels here Byte operands h = length-map operands byte_of_number
 length-bytes_of labels here Ascii operands h = refl
 length-bytes_of labels here Li operands h = pair_size labels (value_fields operands) (kind_some _ (value_fields operands) h)
 length-bytes_of labels here La operands h = pair_size labels (label_fields operands) (kind_some _ (label_fields operands) h)
-length-bytes_of labels here (Inst form) operands h = inst_size (fields_of form operands) (inst_word labels here form) (kind_some _ (fields_of form operands) h)
+length-bytes_of labels here (Inst form) operands h = inst_size (fields_of form operands) (inst_word labels here form)
+    (kind_some _ (fields_of form operands) h)

@@ -1,5 +1,6 @@
 -- Lines without faults keep a program within its limits.
-use Rattle.std.proofs.Common.{◌≡◌, ◌⊎◌, inl, inr, ◌==◌, ℕ, ◌+◌, ◌%◌, ◌^◌, ◌<◌, ◌≤◌, Bool, true, false, cond, not, ◌&&◌, ◌||◌, List, [], ◌∷◌, ◌++◌, length, refl, ap, arith, add-zero, Option, None, Some, IsSome, is_some, nat_lt, nat_le}
+use Rattle.std.proofs.Common.{◌≡◌, ◌⊎◌, inl, inr, ◌==◌, ℕ, ◌+◌, ◌%◌, ◌^◌, ◌<◌, ◌≤◌, Bool, true, false, cond, not, ◌&&◌, ◌||◌, List, [], ◌∷◌}
+use Rattle.std.proofs.Common.{◌++◌, length, refl, ap, arith, add-zero, Option, None, Some, IsSome, is_some, nat_lt, nat_le}
 use Rattle.std.specs.List.{AllByRecursion}
 use Rattle.std.specs.Option.{option_or}
 use Rattle.std.proofs.lemmas.Bool.{ltb-false, leb-false, eqb-true, eqb-false, or_parts, not-false}
@@ -14,7 +15,8 @@ use Rattle.mx_source.specs.Lines.{Statement, Absent, Unlisted, Listed}
 use Rattle.mx_asm.specs.declared.places.Place.{Place}
 use Rattle.mx_asm.specs.Places.{start, address_of, size_of, at_segment, with_size, place_listed, place_after}
 use Rattle.mx_asm.specs.Labels.{Definition}
-use Rattle.mx_asm.specs.Faults.{operand_fault, begins_segment, is_aligned, place_fault, label_fault, label_place_fault, line_fault, offset_fault, offset_fits}
+use Rattle.mx_asm.specs.Faults.{operand_fault, begins_segment, is_aligned, place_fault, label_fault, label_place_fault, line_fault}
+use Rattle.mx_asm.specs.Faults.{offset_fault, offset_fits}
 use Rattle.mx_asm.specs.Denoted.{bytes_of, with_begun, with_listed, with_statement, with_defined}
 use Rattle.mx_asm.specs.Ready.{IsReady, IsReadyFor}
 use Rattle.mx_asm.proofs.ProgramLaws.{grown}
@@ -33,9 +35,18 @@ AreLaid (s ∷ []) end = IsBegun s × (s.address + length s.bytes ≡ end)
 AreLaid (s ∷ t ∷ more) end = IsSegment s × AreLaid (t ∷ more) end
 
 -- one segment more
-laid_append : (segments : List Segment) (end : ℕ) (s : Segment) → end ≤ 2 ^ 32 → AreLaid segments end → IsBegun s → s.bytes ≡ [] → AreLaid (segments ++ s ∷ []) s.address
+laid_append : (segments : List Segment) (end : ℕ) (s : Segment) → end ≤ 2 ^ 32 → AreLaid segments end → IsBegun s → s.bytes ≡ []
+    → AreLaid (segments ++ s ∷ []) s.address
 laid_append [] end s le h begun none = (begun, omega (arith, ap length none))
-laid_append (r ∷ []) end s le h begun none = (record { aligned = h.0.aligned; flags = h.0.flags; ends = omega (arith, h.1) }, (begun, omega (arith, ap length none)))
+laid_append (r ∷ []) end s le h begun none = (
+  record {
+    aligned = h.0.aligned;
+    flags = h.0.flags;
+    ends =
+        omega (arith, h.1);
+  },
+  (begun, omega (arith, ap length none)),
+)
 laid_append (r ∷ t ∷ more) end s le h begun none = (h.0, laid_append (t ∷ more) end s le h.1 begun none)
 
 -- one byte more
@@ -74,15 +85,25 @@ begun_at flags address = record { address = address; flags = flags; bytes = [] }
 begun_segments : (flags address : ℕ) (p : Program) → (with_begun flags address p).segments ≡ p.segments ++ begun_at flags address ∷ []
 unfolding begun_at
 begun_segments flags address p =
-    elim (length p.segments == 0) as (λ b. (cond b (with_entry address p) p).segments ++ begun_at flags address ∷ [] ≡ p.segments ++ begun_at flags address ∷ []) [ true ↦ refl | false ↦ refl ]
+    elim (length p.segments == 0) as (λ b. (cond b (with_entry address p) p).segments ++ begun_at flags address ∷ [] ≡ p.segments
+    ++ begun_at flags address ∷ []) [ true ↦ refl | false ↦ refl ]
 
 begun_entry : (flags address : ℕ) (p : Program) → address < 2 ^ 32 → p.entry < 2 ^ 32 → (with_begun flags address p).entry < 2 ^ 32
-begun_entry flags address p a e = elim (length p.segments == 0) as (λ b. (cond b (with_entry address p) p).entry < 2 ^ 32) [ true ↦ a | false ↦ e ]
+begun_entry flags address p a e = elim (length p.segments == 0) as (λ b. (cond b (with_entry address p) p).entry < 2 ^ 32) [
+  | true ↦
+      a
+  | false ↦ e
+]
 
 pub begun_labels : (flags address : ℕ) (p : Program) → (with_begun flags address p).labels ≡ p.labels
-begun_labels flags address p = elim (length p.segments == 0) as (λ b. (cond b (with_entry address p) p).labels ≡ p.labels) [ true ↦ refl | false ↦ refl ]
+begun_labels flags address p = elim (length p.segments == 0) as (λ b. (cond b (with_entry address p) p).labels ≡ p.labels) [
+  | true ↦
+      refl
+  | false ↦ refl
+]
 
-begin_placed : (flags address : ℕ) (place : Place) (p : Program) → (flags ≡ 5) ⊎ (flags ≡ 6) → address < 2 ^ 32 → address % 4 ≡ 0 → place.segments < 16 → IsPlaced place p
+begin_placed : (flags address : ℕ) (place : Place) (p : Program) → (flags ≡ 5) ⊎ (flags ≡ 6) → address < 2 ^ 32 → address % 4 ≡ 0
+    → place.segments < 16 → IsPlaced place p
     → IsPlaced (at_segment address place) (with_begun flags address p)
 unfolding begun_at
 begin_placed flags address place p kind below aligned more is =
@@ -94,7 +115,8 @@ begin_placed flags address place p kind below aligned more is =
       room = is.room;
       here = omega arith;
       entry = begun_entry flags address p below is.entry;
-      laid = rw e (laid_append p.segments place.here (begun_at flags address) is.here is.laid (record { aligned = aligned; flags = kind }) refl);
+      laid = rw e (laid_append p.segments place.here (begun_at flags address) is.here is.laid (record { aligned = aligned; flags = kind })
+          refl);
     }
 
 pub bytes_entry : (bytes : List ℕ) (p : Program) → (with_bytes bytes p).entry ≡ p.entry
@@ -105,7 +127,8 @@ pub bytes_labels : (bytes : List ℕ) (p : Program) → (with_bytes bytes p).lab
 bytes_labels [] p = refl
 bytes_labels (b ∷ bytes) p = bytes_labels bytes (with_byte b p)
 
-grow_placed : (bytes : List ℕ) (size : ℕ) (place : Place) (p : Program) → length bytes ≡ size → 0 < length p.segments → place.total + size ≤ 4194304 → place.here + size ≤ 2 ^ 32 → IsPlaced place p
+grow_placed : (bytes : List ℕ) (size : ℕ) (place : Place) (p : Program) → length bytes ≡ size → 0 < length p.segments
+    → place.total + size ≤ 4194304 → place.here + size ≤ 2 ^ 32 → IsPlaced place p
     → IsPlaced (with_size size place) (with_bytes bytes p)
 grow_placed bytes size place p same begun room here is =
     let g = grown bytes p begun in
@@ -138,37 +161,44 @@ pos_of n h = omega (arith, h)
 not_aligned : (n : ℕ) → not (n % 4 == 0) ≡ false → n % 4 ≡ 0
 not_aligned n h = eqb-true (n % 4) 0 (not-false (n % 4 == 0) h)
 
-module _ (labels : List Definition) (label : Option (List ℕ)) (operands : List (List ℕ)) (place : Place) (p : Program) (is : IsPlaced place p) where
+module _ (labels : List Definition) (label : Option (List ℕ)) (operands : List (List ℕ)) (place : Place) (p : Program)
+    (is : IsPlaced place p) where
   begun_of : (keyword : Keyword) → begins_segment keyword ≡ false → IsPlain label keyword operands place → 0 < length p.segments
   begun_of keyword begins plain =
       let none = both_true (place.segments == 0) (is_some label) (rw begins at plain.begun) in
       omega (arith, is.segments, pos_of place.segments (eqb-false place.segments 0 none))
 
   -- a segment is begun
-  begin_step : (flags : ℕ) (keyword : Keyword) → (flags ≡ 5) ⊎ (flags ≡ 6) → begins_segment keyword ≡ true → address_of operands < 2 ^ 32 → IsPlain label keyword operands place
+  begin_step : (flags : ℕ) (keyword : Keyword) → (flags ≡ 5) ⊎ (flags ≡ 6) → begins_segment keyword ≡ true → address_of operands < 2 ^ 32
+      → IsPlain label keyword operands place
       → IsPlaced (at_segment (address_of operands) place) (with_begun flags (address_of operands) p)
   begin_step flags keyword kind begins below plain =
       let a = rw begins at plain.aligned in
       let s = rw begins at plain.sixteenth in
       begin_placed flags (address_of operands) place p kind below
-      (not_aligned (address_of operands) (or_parts (not (address_of operands % 4 == 0)) (is_aligned keyword && not (place.here % 4 == 0)) a).0)
+      (not_aligned (address_of operands) (or_parts (not (address_of operands % 4 == 0)) (is_aligned keyword && not (place.here % 4 == 0))
+      a).0)
       (leb-false 16 place.segments s) is
 
   -- bytes are added
-  content_step : (keyword : Keyword) → begins_segment keyword ≡ false → operand_fault labels keyword operands ≡ None → IsPlain label keyword operands place
+  content_step : (keyword : Keyword) → begins_segment keyword ≡ false → operand_fault labels keyword operands ≡ None
+      → IsPlain label keyword operands place
       → IsPlaced (with_size (size_of keyword operands place.here) place) (with_bytes (bytes_of labels place.here keyword operands) p)
   content_step keyword begins none plain =
       let size = size_of keyword operands place.here in
-      let f = first_of (nat_lt 4194304 (place.total + size)) (nat_lt (2 ^ 32) (place.here + size)) (is_some label && nat_le (2 ^ 32) place.here) plain.room in
+      let f = first_of (nat_lt 4194304 (place.total + size)) (nat_lt (2 ^ 32) (place.here + size))
+      (is_some label && nat_le (2 ^ 32) place.here) plain.room in
       grow_placed (bytes_of labels place.here keyword operands) size place p (length-bytes_of labels place.here keyword operands none)
       (begun_of keyword begins plain)
       (ltb-false 4194304 (place.total + size) f.0) (ltb-false (2 ^ 32) (place.here + size) f.1) is
 
-  content_ready : (keyword : Keyword) → begins_segment keyword ≡ false → operand_fault labels keyword operands ≡ None → offset_fits labels place.here keyword operands ≡ true → IsPlain label keyword operands place
+  content_ready : (keyword : Keyword) → begins_segment keyword ≡ false → operand_fault labels keyword operands ≡ None
+      → offset_fits labels place.here keyword operands ≡ true → IsPlain label keyword operands place
       → IsReadyFor labels place keyword operands p
   content_ready keyword begins none fit plain =
       let size = size_of keyword operands place.here in
-      let f = first_of (nat_lt 4194304 (place.total + size)) (nat_lt (2 ^ 32) (place.here + size)) (is_some label && nat_le (2 ^ 32) place.here) plain.room in
+      let f = first_of (nat_lt 4194304 (place.total + size)) (nat_lt (2 ^ 32) (place.here + size))
+      (is_some label && nat_le (2 ^ 32) place.here) plain.room in
       record {
         begun = λ _. begun_of keyword begins plain;
         address = λ b. cc;
@@ -178,12 +208,14 @@ module _ (labels : List Definition) (label : Option (List ℕ)) (operands : List
       }
 
   -- a listed statement
-  begin_ready : (keyword : Keyword) → begins_segment keyword ≡ true → operand_fault labels keyword operands ≡ None → offset_fits labels place.here keyword operands ≡ true
+  begin_ready : (keyword : Keyword) → begins_segment keyword ≡ true → operand_fault labels keyword operands ≡ None
+      → offset_fits labels place.here keyword operands ≡ true
       → address_of operands < 2 ^ 32 → size_of keyword operands place.here ≡ 0 → IsReadyFor labels place keyword operands p
   begin_ready keyword begins none fit below size =
       record { begun = λ f. cc; address = λ _. below; faultless = none; fits = fit; room = omega (arith, is.total, is.room, size) }
 
-  listed_step : (keyword : Keyword) → operand_fault labels keyword operands ≡ None → offset_fits labels place.here keyword operands ≡ true → IsPlain label keyword operands place
+  listed_step : (keyword : Keyword) → operand_fault labels keyword operands ≡ None → offset_fits labels place.here keyword operands ≡ true
+      → IsPlain label keyword operands place
       → IsStep labels place (Listed keyword operands) p
   unfolding place_listed with_listed operand_fault size_of
   listed_step Text none fit plain =
@@ -198,18 +230,25 @@ module _ (labels : List Definition) (label : Option (List ℕ)) (operands : List
   listed_step Ascii none fit plain = record { ready = content_ready Ascii refl none fit plain; after = content_step Ascii refl none plain }
   listed_step Li none fit plain = record { ready = content_ready Li refl none fit plain; after = content_step Li refl none plain }
   listed_step La none fit plain = record { ready = content_ready La refl none fit plain; after = content_step La refl none plain }
-  listed_step (Inst form) none fit plain = record { ready = content_ready (Inst form) refl none fit plain; after = content_step (Inst form) refl none plain }
+  listed_step (Inst form) none fit plain = record {
+    ready = content_ready (Inst form) refl none fit plain;
+    after =
+        content_step (Inst form) refl none plain;
+  }
 
 -- the statement of a line without faults
 pub statement_step : (labels : List Definition) (number : ℕ) (place : Place) (label : Option (List ℕ)) (statement : Statement) (p : Program)
-    → line_fault labels number place label statement ≡ None → offset_fault labels place statement ≡ None → IsPlaced place p → IsStep labels place statement p
+    → line_fault labels number place label statement ≡ None → offset_fault labels place statement ≡ None → IsPlaced place p
+    → IsStep labels place statement p
 unfolding line_fault offset_fault
 statement_step labels number place label Absent p h off is = record { ready = tt; after = is }
 statement_step labels number place label Unlisted p h off is = cc
 statement_step labels number place label (Listed keyword operands) p h off is =
-    let o = neither (operand_fault labels keyword operands) (option_or (label_fault labels number label) (place_fault label keyword operands place)) h in
+    let o = neither (operand_fault labels keyword operands) (option_or (label_fault labels number label)
+    (place_fault label keyword operands place)) h in
     let q = neither (label_fault labels number label) (place_fault label keyword operands place) o.1 in
-    listed_step labels label operands place p is keyword o.0 (withheld (offset_fits labels place.here keyword operands) 3 off) (place_plain label keyword operands place q.1)
+    listed_step labels label operands place p is keyword o.0 (withheld (offset_fits labels place.here keyword operands) 3 off)
+    (place_plain label keyword operands place q.1)
 
 below_end : (some : Bool) (here : ℕ) → (some && nat_le (2 ^ 32) here) ≡ false → some ≡ true → here < 2 ^ 32
 below_end true here h e = leb-false (2 ^ 32) here h
@@ -226,11 +265,13 @@ label_below labels number place label Absent h some =
     below_end (is_some label) place.here b.0 some
 label_below labels number place label Unlisted h some = cc
 label_below labels number place label (Listed keyword operands) h some =
-    let o = neither (operand_fault labels keyword operands) (option_or (label_fault labels number label) (place_fault label keyword operands place)) h in
+    let o = neither (operand_fault labels keyword operands) (option_or (label_fault labels number label)
+    (place_fault label keyword operands place)) h in
     let q = neither (label_fault labels number label) (place_fault label keyword operands place) o.1 in
     let size = size_of keyword operands place.here in
     let plain = place_plain label keyword operands place q.1 in
-    below_end (is_some label) place.here (first_of (nat_lt 4194304 (place.total + size)) (nat_lt (2 ^ 32) (place.here + size)) (is_some label && nat_le (2 ^ 32) place.here) plain.room).2 some
+    below_end (is_some label) place.here (first_of (nat_lt 4194304 (place.total + size)) (nat_lt (2 ^ 32) (place.here + size))
+    (is_some label && nat_le (2 ^ 32) place.here) plain.room).2 some
 
 -- and it is defined on this line
 pub label_here : (labels : List Definition) (number : ℕ) (place : Place) (label : Option (List ℕ)) (statement : Statement)
@@ -240,13 +281,31 @@ label_here labels number place label Absent h = (neither (label_fault labels num
 label_here labels number place label Unlisted h = cc
 label_here labels number place label (Listed keyword operands) h =
     (neither (label_fault labels number label) (place_fault label keyword operands place)
-    (neither (operand_fault labels keyword operands) (option_or (label_fault labels number label) (place_fault label keyword operands place)) h).1).0
+    (neither (operand_fault labels keyword operands) (option_or (label_fault labels number label)
+    (place_fault label keyword operands place)) h).1).0
 
 -- a label changes neither
-pub label_placed : (place : Place) (label : Option (List ℕ)) (here : ℕ) (p : Program) → IsPlaced place p → IsPlaced place (with_defined label here p)
+pub label_placed : (place : Place) (label : Option (List ℕ)) (here : ℕ) (p : Program) → IsPlaced place p
+    → IsPlaced place (with_defined label here p)
 label_placed place None here p is = is
-label_placed place (Some name) here p is = record { segments = is.segments; few = is.few; total = is.total; room = is.room; here = is.here; entry = is.entry; laid = is.laid }
+label_placed place (Some name) here p is = record {
+  segments = is.segments;
+  few = is.few;
+  total = is.total;
+  room = is.room;
+  here = is.here;
+  entry = is.entry;
+  laid = is.laid;
+}
 
 -- nothing yet
 pub start_placed : IsPlaced start no_program
-start_placed = record { segments = refl; few = omega arith; total = refl; room = omega arith; here = omega arith; entry = omega arith; laid = tt }
+start_placed = record {
+  segments = refl;
+  few = omega arith;
+  total = refl;
+  room = omega arith;
+  here = omega arith;
+  entry = omega arith;
+  laid = tt;
+}

@@ -10,7 +10,8 @@ use Rattle.mx_asm.specs.Places.{place_after, start}
 use Rattle.mx_asm.specs.Labels.{Definition, with_name, labels_from}
 use Rattle.mx_asm.specs.Faults.{line_fault, offset_fault, at_line, fault_from, offset_from}
 
-module _ (labels : List Definition) (place : Place) (number : ℕ) (text : List ℕ) (line : Line) (rest : List (List ℕ)) (is : line ≡ line_of text) (after : Place) (moves : after ≡ place_after line.statement place) where
+module _ (labels : List Definition) (place : Place) (number : ℕ) (text : List ℕ) (line : Line) (rest : List (List ℕ))
+    (is : line ≡ line_of text) (after : Place) (moves : after ≡ place_after line.statement place) where
   -- the labels of the later lines
   pub labels_more : (more : List Definition) → more ≡ with_name line.label place.here number labels
       → labels_from after (number + 1) more rest ≡ labels_from place number labels (text ∷ rest)
@@ -24,7 +25,8 @@ module _ (labels : List Definition) (place : Place) (number : ℕ) (text : List 
   faults_more none = rw (moves, (rw is at none)) (rw is refl)
 
   pub offsets_more : (first : Option SourceFault)
-      → option_or (option_or first (at_line number (offset_fault labels place line.statement))) (offset_from labels after (number + 1) rest) ≡ option_or first (offset_from labels place number (text ∷ rest))
+      → option_or (option_or first (at_line number (offset_fault labels place line.statement))) (offset_from labels after (number + 1) rest)
+      ≡ option_or first (offset_from labels place number (text ∷ rest))
   unfolding offset_from
   offsets_more None = rw (moves, is) refl
   offsets_more (Some fault) = refl

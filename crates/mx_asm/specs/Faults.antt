@@ -1,6 +1,7 @@
 -- The faults of a source by line and number.
 -- The rules: docs/COMMANDS.md, "The source".
-use Rattle.std.specs.Prelude.{ℕ, ◌+◌, ◌%◌, ◌^◌, ◌==◌, nat_lt, nat_le, min, Bool, true, false, not, ◌&&◌, ◌||◌, List, [], ◌∷◌, length, Option, Some, None, is_some, option_map, if◌then◌else◌}
+use Rattle.std.specs.Prelude.{ℕ, ◌+◌, ◌%◌, ◌^◌, ◌==◌, nat_lt, nat_le, min, Bool, true, false, not, ◌&&◌, ◌||◌, List, [], ◌∷◌, length}
+use Rattle.std.specs.Prelude.{Option, Some, None, is_some, option_map, if◌then◌else◌}
 use Rattle.std.specs.Option.{option_map_or, option_or}
 use Rattle.mx_asm.specs.declared.places.Place.{Place}
 use Rattle.mx_source.specs.declared.number.Range.{Range}
@@ -9,11 +10,13 @@ use Rattle.mx_source.specs.declared.mnemonics.Keyword.TheVariants.{Text, Data, A
 use Rattle.mx_asm.specs.declared.faults.SourceFault.{SourceFault}
 use Rattle.mx_source.specs.Numbers.{number_of, fits}
 use Rattle.mx_source.specs.Lines.{Statement, Absent, Unlisted, Listed, line_of}
-use Rattle.mx_source.specs.Fields.{Value, Given, Label, Fields, value_of, value_fields, label_fields, fields_of, range_of, word_range, byte_range, address_range}
+use Rattle.mx_source.specs.Fields.{Value, Given, Label, Fields, value_of, value_fields, label_fields, fields_of, range_of, word_range}
+use Rattle.mx_source.specs.Fields.{byte_range, address_range}
 use Rattle.mx_asm.specs.Places.{address_number, address_of, ascii_of, size_of, place_after}
 use Rattle.mx_asm.specs.Labels.{Definition, definition_of}
 use Rattle.mx_asm.specs.Instructions.{offset_of}
 use Rattle.mx_words.specs.FirstRow.{first_row}
+use Rattle.mx_words.specs.Limits.{most_segments, most_segment_bytes}
 
 -- the lesser of two fault numbers, where there are any
 abbrev pub lesser_fault : Option ℕ → Option ℕ → Option ℕ
@@ -110,7 +113,7 @@ is_misplaced keyword operands place =
 -- too many bytes, a segment that passes 2^32, or a label at 2^32
 abbrev pub is_full : Option (List ℕ) → Place → ℕ → Bool
 is_full label place size =
-    nat_lt 4194304 (place.total + size) || nat_lt (2 ^ 32) (place.here + size)
+    nat_lt most_segment_bytes (place.total + size) || nat_lt (2 ^ 32) (place.here + size)
     || (is_some label && nat_le (2 ^ 32) place.here)
 
 -- 6: before the first segment. 7: not at a multiple of 4. 8: `.at` before the present address. 9: the seventeenth segment.
@@ -121,7 +124,7 @@ place_fault label keyword operands place =
     ((place.segments == 0) && (is_some label || not (begins_segment keyword)), 6)
     ∷ (is_misplaced keyword operands place, 7)
     ∷ (is_at keyword && nat_lt (address_of operands) place.here, 8)
-    ∷ (begins_segment keyword && nat_le 16 place.segments, 9)
+    ∷ (begins_segment keyword && nat_le most_segments place.segments, 9)
     ∷ (is_full label place (size_of keyword operands place.here), 10)
     ∷ [])
 

@@ -12,7 +12,8 @@ use mx_image::write;
 use mx_words::Blob;
 use std::alloc::Global;
 
-/// The image of the program that a source denotes, an executable file for RISC-V with 32 bits, or the source's first fault.
+/// The image of the program that a source denotes, an executable file for RISC-V with 32 bits, or the source's first
+/// fault.
 /// The text has at most 1048576 bytes. Where memory is refused the answer is `NoMemory`.
 pub fn assemble(alloc: Global, text: &str) -> Result<Blob, AsmRefused>
     requires { length text.now ≤ 2 ^ 20 }
@@ -31,7 +32,8 @@ pub fn assemble(alloc: Global, text: &str) -> Result<Blob, AsmRefused>
     Ok(write(alloc, &program)?)
 }
 
-/// A source of at most 1048576 bytes without faults denotes a program whose image `read_image` and `symbol` read as the laws
+/// A source of at most 1048576 bytes without faults denotes a program whose image `read_image` and `symbol` read as the
+/// laws
 /// of mx_image say: with the program's entry, segments and labels.
 pub fn program_is_lawful()
     ensures { (source : List ℕ) → length source ≤ 2 ^ 20 → first_fault source ≡ None

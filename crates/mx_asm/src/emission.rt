@@ -1,5 +1,6 @@
 //! The bytes of a program.
-ghost use Rattle.std.specs.Prelude.{◌≡◌, ◌≤◌, ◌<◌, ◌+◌, ◌^◌, ◌*◌, ◌∷◌, [], false, length, None, OnOk, IfOk, IsSome, IsTrue, IfSome, map, option_map, replicate, unwrap_or};
+ghost use Rattle.std.specs.Prelude.{◌≡◌, ◌≤◌, ◌<◌, ◌+◌, ◌^◌, ◌*◌, ◌∷◌, [], false, length, None, OnOk, IfOk, IsSome};
+ghost use Rattle.std.specs.Prelude.{IsTrue, IfSome, map, option_map, replicate, unwrap_or};
 ghost use Rattle.std.specs.Option.{option_map_or};
 ghost use Rattle.mx_image.specs.Program.{byte_count, with_bytes, with_entry};
 ghost use Rattle.mx_image.specs.Image.{words};
@@ -11,7 +12,9 @@ ghost use Rattle.mx_asm.specs.Places.{size_of, ascii_of};
 ghost use Rattle.mx_asm.specs.Faults.{operand_fault, offset_fits};
 ghost use Rattle.mx_asm.specs.Ready.{IsReady, IsReadyFor, IsGrown};
 ghost use Rattle.mx_asm.specs.LabelViews.{labels_view};
-ghost use Rattle.mx_asm.specs.Denoted.{word_of_value, byte_of_number, pair_words, inst_word, bytes_of, with_defined, with_statement, with_begun, with_listed, program_of, first_fault, labels_of_source};
+ghost use Rattle.mx_asm.specs.Denoted.{word_of_value, byte_of_number, pair_words, inst_word, bytes_of, with_defined};
+ghost use Rattle.mx_asm.specs.Denoted.{with_statement, with_begun, with_listed, program_of, first_fault};
+ghost use Rattle.mx_asm.specs.Denoted.{labels_of_source};
 
 use crate::instructions::{inst_word, pair_words, value_bits};
 use crate::labels::{LabelPlace, Labels, definition};

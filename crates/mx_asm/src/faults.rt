@@ -3,7 +3,10 @@ ghost use Rattle.std.specs.Prelude.{◌≡◌, ◌≤◌, ◌<◌, ◌+◌, ◌^
 ghost use Rattle.std.specs.Option.{option_or};
 ghost use Rattle.mx_source.specs.Operands.{pieces_of};
 ghost use Rattle.mx_source.specs.Numbers.{fits};
-ghost use Rattle.mx_asm.specs.Faults.{at_line, lesser_fault, least_fault, value_fault, word_fault, byte_fault, some_fault, address_fault, fields_fault, operand_fault, label_fault, begins_segment, is_aligned, is_at, label_place_fault, is_full, place_fault, line_fault, offset_fits, offset_fault, fault_from, offset_from};
+ghost use Rattle.mx_asm.specs.Faults.{at_line, lesser_fault, least_fault, value_fault, word_fault, byte_fault};
+ghost use Rattle.mx_asm.specs.Faults.{some_fault, address_fault, fields_fault, operand_fault, label_fault};
+ghost use Rattle.mx_asm.specs.Faults.{begins_segment, is_aligned, is_at, label_place_fault, is_full, place_fault};
+ghost use Rattle.mx_asm.specs.Faults.{line_fault, offset_fits, offset_fault, fault_from, offset_from};
 ghost use Rattle.mx_source.specs.FieldViews.{value_view, fields_view};
 ghost use Rattle.mx_asm.specs.LabelViews.{labels_view};
 ghost use Rattle.mx_source.specs.LineViews.{label_view, statement_view, IsShort};
@@ -17,6 +20,7 @@ use mx_source::{
     form_range, label_fields, read_fields, read_line, read_number, read_value, value_fields,
     word_range,
 };
+use mx_words::MOST_SEGMENT_BYTES;
 
 /// A fault: its line, counted from 1, and its number.
 #[derive(Clone, Copy)]
@@ -25,10 +29,8 @@ pub(crate) struct SourceFault {
     pub(crate) number: u32,
 }
 
-/// How many segments a program has at most.
-const MOST_SEGMENTS: u32 = 16;
-/// How many bytes its segments have at most.
-const MOST_BYTES: u64 = 0x40_0000;
+/// The greatest number of segments, as a place counts them.
+const MOST_SEGMENTS: u32 = mx_words::MOST_SEGMENTS as u32;
 /// The address after the last one.
 const ADDRESS_END: u64 = 0x1_0000_0000;
 
@@ -235,7 +237,7 @@ fn is_full(label: Option<&[u8]>, place: Place, size: u64) -> bool
     requires total { place.total < 2 ^ 62 }
     ensures { result ≡ is_full (label_view label.entry) place size }
 {
-    MOST_BYTES < place.total + size
+    MOST_SEGMENT_BYTES < place.total + size
         || ADDRESS_END < place.here + size
         || label.is_some() && ADDRESS_END <= place.here
 }
@@ -290,7 +292,8 @@ fn offset_fault(labels: &Labels<'_>, place: Place, statement: Statement<'_>) -> 
     }
 }
 
-/// The first fault of a source, whose labels these are; offsets to labels are judged only where no line has another one.
+/// The first fault of a source, whose labels these are; offsets to labels are judged only where no line has another
+/// one.
 #[tactic(auto, unfolding(crate::specs::Denoted::first_fault))]
 pub(crate) fn first_fault(source: &str, labels: &Labels<'_>) -> Option<SourceFault>
     requires size { length source.now ≤ 2 ^ 20 }

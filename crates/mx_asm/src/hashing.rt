@@ -1,6 +1,7 @@
 //! How the labels of a source are hashed.
 //!
-//! A hasher whose seed is fixed lets the author of a source choose labels that all stand in one chain of the map, so that
+//! A hasher whose seed is fixed lets the author of a source choose labels that all stand in one chain of the map, so
+//! that
 //! each look-up goes through all of them. Here every hasher begins with the digest of the whole source: other labels
 //! make another source, and with it another hasher.
 

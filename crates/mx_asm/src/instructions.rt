@@ -7,7 +7,8 @@ ghost use Rattle.mx_source.specs.Fields.{range_of};
 ghost use Rattle.mx_source.specs.FieldViews.{fields_view, value_view, AreRegisters};
 ghost use Rattle.mx_asm.specs.LabelViews.{labels_view};
 ghost use Rattle.mx_asm.specs.Labels.{address_of_label};
-ghost use Rattle.mx_asm.specs.Instructions.{offset_of, bits_of_value, inst_of, upper_part, low_part, upper_inst, low_inst};
+ghost use Rattle.mx_asm.specs.Instructions.{offset_of, bits_of_value, inst_of, upper_part, low_part, upper_inst};
+ghost use Rattle.mx_asm.specs.Instructions.{low_inst};
 ghost use Rattle.mx_asm.specs.Denoted.{inst_word, pair_words};
 
 use crate::labels::{Labels, definition};

@@ -1,6 +1,7 @@
 //! The assembler: from the text of a source to the image of the program that it denotes.
 //!
-//! `assemble` reads the text three times, line by line: for the labels with their addresses, for the first fault, and for the
+//! `assemble` reads the text three times, line by line: for the labels with their addresses, for the first fault, and
+//! for the
 //! program's bytes. How one line is split and read is mx_source's.
 #![tactic(auto)]
 

@@ -1,12 +1,14 @@
 //! Where the bytes of each line stand.
 ghost use Rattle.std.specs.Prelude.{◌≡◌, ◌≤◌, ◌<◌, ◌+◌, ◌*◌, ◌^◌, length, option_map, IfSome};
 ghost use Rattle.mx_source.specs.Operands.{pieces_of};
-ghost use Rattle.mx_asm.specs.Places.{address_number, address_of, ascii_of, size_of, place_listed, place_after, start, at_segment, with_size};
+ghost use Rattle.mx_asm.specs.Places.{address_number, address_of, ascii_of, size_of, place_listed, place_after, start};
+ghost use Rattle.mx_asm.specs.Places.{at_segment, with_size};
 ghost use Rattle.mx_source.specs.LineViews.{statement_view, IsShort};
 
 use mx_source::{Keyword, Number, Statement, piece_count, read_number, single, text_size};
 
-/// A place in a program: how many segments are begun, the address of the next byte in the present one, and the bytes of all.
+/// A place in a program: how many segments are begun, the address of the next byte in the present one, and the bytes of
+/// all.
 #[derive(Clone, Copy)]
 pub(crate) struct Place {
     pub(crate) segments: u32,

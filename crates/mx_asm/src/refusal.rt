@@ -11,7 +11,8 @@ pub enum AsmRefused {
     Fault {
         /// The line, counted from 1.
         line: u32,
-        /// The number. 1: a statement that isn't listed, or a line of another form. 2: operands of another count or kind.
+        /// The number. 1: a statement that isn't listed, or a line of another form. 2: operands of another count or
+        /// kind.
         /// 3: a number or an offset out of its range. 4: a label that isn't defined. 5: a label that an earlier line
         /// defines. 6: nothing but `.text` and `.data` may stand before the first segment. 7: not at a multiple of 4.
         /// 8: `.at` names an earlier address. 9: the seventeenth segment. 10: more than 4194304 bytes, a segment that

@@ -1,5 +1,6 @@
 -- What a hart decides keeps inside a closed set of domains, and a store is one that its domain may make.
-use Rattle.std.proofs.Common.{◌≡◌, ℕ, ◌%◌, Bool, true, false, not, cond, nat_le, ◌==◌, List, length, refl, sym, subst, eqb-true, if◌then◌else◌, Option, Some, None}
+use Rattle.std.proofs.Common.{◌≡◌, ℕ, ◌%◌, Bool, true, false, not, cond, nat_le, ◌==◌, List, length, refl, sym, subst, eqb-true}
+use Rattle.std.proofs.Common.{if◌then◌else◌, Option, Some, None}
 use Rattle.std.specs.Prelude.{IfSome}
 use Rattle.std.specs.Option.{option_map_or}
 use Rattle.std.specs.List.{AllByRecursion}
@@ -17,7 +18,9 @@ use Rattle.mx_model.specs.Effect.{Effect, Goes, Faults, Loads, Stores, Calls, Ju
 use Rattle.mx_model.specs.Gates.{call_gate, call_target, gate_at, is_at, most_frames, top}
 use Rattle.mx_model.specs.Reads.{Reads}
 use Rattle.mx_model.specs.State.{Core, Hart, Status, Running, Waiting, Halted, hart_at, module_at}
-use Rattle.mx_model.specs.Turn.{Action, Rests, Waits, Serves, Asks, Traps, Bounces, Crosses, Returns, Runs, Writes, Decided, without_look, traps, is_denied, call_gate_at, is_return_at, load_at, at_gate, returned_over, at_return, jump_action, by_effect, by_word, fetches, runs_at, runs_in, by_status, decide}
+use Rattle.mx_model.specs.Turn.{Action, Rests, Waits, Serves, Asks, Traps, Bounces, Crosses, Returns, Runs, Writes, Decided, without_look}
+use Rattle.mx_model.specs.Turn.{traps, is_denied, call_gate_at, is_return_at, load_at, at_gate, returned_over, at_return, jump_action}
+use Rattle.mx_model.specs.Turn.{by_effect, by_word, fetches, runs_at, runs_in, by_status, decide}
 use Rattle.mx_model.specs.Valid.{IsStatus}
 use Rattle.mx_model.proofs.AlignedLaws.{IsAligned, aligned-effect}
 use Rattle.mx_model.proofs.ListLaws.{all-find, all-last, found-passes}
@@ -51,7 +54,8 @@ decided-choice L r c hart true d e p q = p
 decided-choice L r c hart false d e p q = q
 
 -- at a call gate
-inside-at_gate : (L : ℕ → Type 0) (r : Reads) (c : Core) (hart : Hart) (target : ℕ) → L target → IsInside L r c hart (at_gate c hart target).action
+inside-at_gate : (L : ℕ → Type 0) (r : Reads) (c : Core) (hart : Hart) (target : ℕ) → L target
+    → IsInside L r c hart (at_gate c hart target).action
 inside-at_gate L r c hart target p =
     decided-choice L r c hart (not (reg hart.regs 1 % 4 == 0)) (traps 19 (reg hart.regs 1)) _ tt
     (decided-choice L r c hart (module_at c target).dead (without_look Bounces) _ tt
@@ -61,7 +65,8 @@ inside-at_gate L r c hart target p =
 inside-over : (L : ℕ → Type 0) (r : Reads) (c : Core) (hart : Hart) (rd target : ℕ) (o : Option Frame) → IfSome o (λ f. L f.caller) →
     IsInside L r c hart (option_map_or (returned_over rd target) o (Traps 18 target))
 inside-over L r c hart rd target None p = tt
-inside-over L r c hart rd target (Some frame) p = inside-choice L r c hart (frame.back == target) (Returns rd frame) (Traps 17 target) (λ e. p) (λ e. tt)
+inside-over L r c hart rd target (Some frame) p = inside-choice L r c hart (frame.back == target) (Returns rd frame) (Traps 17 target) (λ e.
+    p) (λ e. tt)
 
 inside-by_effect : (L : ℕ → Type 0) (r : Reads) (c : Core) (h : ℕ) (hart : Hart) (e : Effect) → IsHome L hart → IsAligned e →
     IsInside L r c hart (by_effect r c h hart e).action
@@ -77,14 +82,17 @@ inside-by_effect L r c h hart Calls p q = p.0
 inside-by_effect L r c h hart (Jumps rd target) p q =
     inside-choice L r c hart (is_return_at c hart.domain hart.pc) (at_return hart rd target) (jump_action hart rd target)
     (λ e. inside-over L r c hart rd target (top hart.frames) (all-last (λ (f : Frame). L f.caller) hart.frames None p.1 tt))
-    (λ e. inside-choice L r c hart (target % 4 == 0) (Runs (written hart.regs rd (next hart.pc)) target) (Traps 0 target) (λ f. tt) (λ f. tt))
+    (λ e. inside-choice L r c hart (target % 4 == 0) (Runs (written hart.regs rd (next hart.pc)) target) (Traps 0 target) (λ f. tt) (λ f.
+    tt))
 
 inside-by_word : (L : ℕ → Type 0) (r : Reads) (c : Core) (h : ℕ) (hart : Hart) (word : ℕ) (o : Option Inst) → IsHome L hart →
     IsInside L r c hart (by_word r c h hart word o).action
 inside-by_word L r c h hart word None p = tt
-inside-by_word L r c h hart word (Some inst) p = inside-by_effect L r c h hart (effect inst hart.regs hart.pc) p (aligned-effect inst hart.regs hart.pc)
+inside-by_word L r c h hart word (Some inst) p = inside-by_effect L r c h hart (effect inst hart.regs hart.pc) p
+    (aligned-effect inst hart.regs hart.pc)
 
-inside-fetches : (L : ℕ → Type 0) (r : Reads) (c : Core) (h : ℕ) (hart : Hart) (b : Bool) → IsHome L hart → IsInside L r c hart (fetches r c h hart b).action
+inside-fetches : (L : ℕ → Type 0) (r : Reads) (c : Core) (h : ℕ) (hart : Hart) (b : Bool) → IsHome L hart
+    → IsInside L r c hart (fetches r c h hart b).action
 inside-fetches L r c h hart true p = tt
 inside-fetches L r c h hart false p = inside-by_word L r c h hart (load_at c hart.pc 4) (decoded (load_at c hart.pc 4)) p
 
@@ -104,17 +112,21 @@ target-some : (L : ℕ → Type 0) (d word : ℕ) (o : Option Gate) → L d → 
 target-some L d word None p q e = tt
 target-some L d word (Some g) p q e = target-in L d word g p q e
 
-target-at : (L : ℕ → Type 0) (gates : List Gate) (d : ℕ) (o : Option ℕ) → L d → AllByRecursion (Leads L) gates → IfSome (option_map_or (call_gate gates d) o None) L
+target-at : (L : ℕ → Type 0) (gates : List Gate) (d : ℕ) (o : Option ℕ) → L d → AllByRecursion (Leads L) gates
+    → IfSome (option_map_or (call_gate gates d) o None) L
 target-at L gates d None p q = tt
-target-at L gates d (Some w) p q = target-some L d w (gate_at gates d w) p (all-find (Leads L) (is_at d w) gates q) (found-passes (is_at d w) gates)
+target-at L gates d (Some w) p q = target-some L d w (gate_at gates d w) p (all-find (Leads L) (is_at d w) gates q)
+    (found-passes (is_at d w) gates)
 
-inside-runs_in : (L : ℕ → Type 0) (r : Reads) (c : Core) (h : ℕ) (hart : Hart) (b : Bool) → IsHome L hart → AllByRecursion (Leads L) c.gates →
+inside-runs_in : (L : ℕ → Type 0) (r : Reads) (c : Core) (h : ℕ) (hart : Hart) (b : Bool) → IsHome L hart
+    → AllByRecursion (Leads L) c.gates →
     IsInside L r c hart (runs_in r c h hart b).action
 inside-runs_in L r c h hart true p q = tt
 inside-runs_in L r c h hart false p q =
     inside-runs_at L r c h hart (call_gate_at c hart.domain hart.pc) p (target-at L c.gates hart.domain (word_of hart.pc c.size) p.0 q)
 
-inside-by_status : (L : ℕ → Type 0) (r : Reads) (c : Core) (h : ℕ) (hart : Hart) (s : Status) → IsHome L hart → AllByRecursion (Leads L) c.gates → IsStatus (length c.harts) h hart s →
+inside-by_status : (L : ℕ → Type 0) (r : Reads) (c : Core) (h : ℕ) (hart : Hart) (s : Status) → IsHome L hart
+    → AllByRecursion (Leads L) c.gates → IsStatus (length c.harts) h hart s →
     IsInside L r c hart (by_status r c h hart s).action
 inside-by_status L r c h hart Running p q s = inside-runs_in L r c h hart (module_at c hart.domain).dead p q
 inside-by_status L r c h hart (Waiting call heard) p q s =

@@ -1,5 +1,6 @@
 -- What alike words tell: of one source after another, and from one word on or a later one.
-use Rattle.std.proofs.Common.{◌≡◌, ℕ, zero, suc, ◌+◌, ◌-◌, ◌<◌, ◌≤◌, min, Bool, true, false, not, ◌||◌, List, [], ◌∷◌, ◌++◌, nat_lt, if◌then◌else◌, length, replicate, slice_get, Some, refl, sym, ap, ◌∙◌, subst, arith, append_assoc}
+use Rattle.std.proofs.Common.{◌≡◌, ℕ, zero, suc, ◌+◌, ◌-◌, ◌<◌, ◌≤◌, min, Bool, true, false, not, ◌||◌, List, [], ◌∷◌, ◌++◌, nat_lt}
+use Rattle.std.proofs.Common.{if◌then◌else◌, length, replicate, slice_get, Some, refl, sym, ap, ◌∙◌, subst, arith, append_assoc}
 use Rattle.std.proofs.lemmas.Bool.{and_left, ltb-true}
 use Rattle.mx_words.specs.declared.perm.Perm.TheVariants as P
 use Rattle.mx_words.specs.declared.perm.Span.{Span}
@@ -19,7 +20,8 @@ use Rattle.mx_audit.proofs.RunLaws.{runs_step, runs_last}
 pub tells-later : (f : Flat) (test : ℕ → Bool) (w v : ℕ) (s : AlikeWords) → w ≤ v → Tells f test w s → Tells f test v s
 tells-later f test w v s l t = record { within = t.within; alike = λ u p q. t.alike u (omega arith) q }
 
-pub all-later : (f : Flat) (marks : List Bool) (w v : ℕ) (known : List AlikeWords) → w ≤ v → AllTell f marks w known → AllTell f marks v known
+pub all-later : (f : Flat) (marks : List Bool) (w v : ℕ) (known : List AlikeWords) → w ≤ v → AllTell f marks w known
+    → AllTell f marks v known
 all-later f marks w v known l t source s e = tells-later f (exposes f marks source) w v s l (t source s e)
 
 -- of one source more
@@ -30,14 +32,17 @@ tells-suc f marks n w a b s e o p q =
     record {
       within = omega arith;
       alike = λ v l u.
-          ap (λ t. t || exposes f marks (suc n) v) (p.alike v l (omega arith)) ∙ ap (λ t. a.exposed || t) (q.alike v l (omega arith)) ∙ sym o;
+          ap (λ t. t || exposes f marks (suc n) v) (p.alike v l (omega arith)) ∙ ap (λ t. a.exposed || t) (q.alike v l (omega arith))
+          ∙ sym o;
     }
 
-pub tells-more : (f : Flat) (marks : List Bool) (n w : ℕ) (a b s : AlikeWords) → s.end ≡ min a.end b.end → s.exposed ≡ (a.exposed || b.exposed) →
+pub tells-more : (f : Flat) (marks : List Bool) (n w : ℕ) (a b s : AlikeWords) → s.end ≡ min a.end b.end
+    → s.exposed ≡ (a.exposed || b.exposed) →
     Tells f (some_exposes f marks n) w a → Tells f (exposes f marks (n + 1)) w b → Tells f (some_exposes f marks (n + 1)) w s
 tells-more f marks n w a b s e o p q =
     let next : suc n ≡ n + 1 = omega arith in
-    subst (λ i. Tells f (some_exposes f marks i) w s) next (tells-suc f marks n w a b s e o p (subst (λ i. Tells f (exposes f marks i) w b) (sym next) q))
+    subst (λ i. Tells f (some_exposes f marks i) w s) next (tells-suc f marks n w a b s e o p
+    (subst (λ i. Tells f (exposes f marks i) w b) (sym next) q))
 
 or-false : (b : Bool) → (b || false) ≡ b
 or-false true = refl
@@ -68,7 +73,8 @@ all-nothing (suc n) zero s e = let same : nothing ≡ s = cc in sym (ap (λ (x :
 all-nothing (suc n) (suc source) s e = all-nothing n source s e
 
 pub none-tell : (f : Flat) (marks : List Bool) (w n : ℕ) → AllTell f marks w (replicate n nothing)
-none-tell f marks w n source s e = let none = all-nothing n source s e in record { within = omega arith; alike = λ v l u. absurd (omega arith) }
+none-tell f marks w n source s e = let none = all-nothing n source s e in
+    record { within = omega arith; alike = λ v l u. absurd (omega arith) }
 
 -- at most one run is added
 pub length-run_between : (first behind : ℕ) → length (run_between first behind) ≤ behind - first
@@ -86,9 +92,12 @@ module _ (f : Flat) (marks : List Bool) (valid : IsValid f.core) (live : MarkLiv
   exposed-from : (w : ℕ) → w < f.core.size → is_exposed f marks w ≡ true → is_sealed (flat_reads f) f.core w ≡ false
   exposed-from w l e = sealed_is_closed f marks valid live w l ∙ ap not e
 
-  pub runs_exposed : (runs : List Span) (first w : ℕ) (s : AlikeWords) → first ≤ w → w < s.end → ((v : ℕ) → first ≤ v → v < w → is_exposed f marks v ≡ false) →
-      Tells f (is_exposed f marks) w s → s.exposed ≡ true → runs ++ runs_where (is_sealed (flat_reads f) f.core) first (f.core.size - first) ≡ sealed_runs (flat_reads f) f.core →
-      (runs ++ run_between first w) ++ runs_where (is_sealed (flat_reads f) f.core) s.end (f.core.size - s.end) ≡ sealed_runs (flat_reads f) f.core
+  pub runs_exposed : (runs : List Span) (first w : ℕ) (s : AlikeWords) → first ≤ w → w < s.end
+      → ((v : ℕ) → first ≤ v → v < w → is_exposed f marks v ≡ false) →
+      Tells f (is_exposed f marks) w s → s.exposed ≡ true → runs ++ runs_where (is_sealed (flat_reads f) f.core) first (f.core.size - first)
+      ≡ sealed_runs (flat_reads f) f.core →
+      (runs ++ run_between first w) ++ runs_where (is_sealed (flat_reads f) f.core) s.end (f.core.size - s.end)
+      ≡ sealed_runs (flat_reads f) f.core
   runs_exposed runs first w s l b closed t o e =
       let test = is_sealed (flat_reads f) f.core in
       let within = t.within in
@@ -98,8 +107,10 @@ module _ (f : Flat) (marks : List Bool) (valid : IsValid f.core) (live : MarkLiv
       (λ v p q. exposed-from v (omega arith) (t.alike v p q ∙ o))))
       ∙ e
 
-  pub runs_end : (runs : List Span) (first : ℕ) → first ≤ f.core.size → ((v : ℕ) → first ≤ v → v < f.core.size → is_exposed f marks v ≡ false) →
+  pub runs_end : (runs : List Span) (first : ℕ) → first ≤ f.core.size
+      → ((v : ℕ) → first ≤ v → v < f.core.size → is_exposed f marks v ≡ false) →
       runs ++ runs_where (is_sealed (flat_reads f) f.core) first (f.core.size - first) ≡ sealed_runs (flat_reads f) f.core →
       runs ++ run_between first f.core.size ≡ sealed_runs (flat_reads f) f.core
   runs_end runs first l closed e =
-      ap (λ rest. runs ++ rest) (sym (runs_last (is_sealed (flat_reads f) f.core) f.core.size first l (λ v p q. sealed-from v q (closed v p q)))) ∙ e
+      ap (λ rest. runs ++ rest) (sym (runs_last (is_sealed (flat_reads f) f.core) f.core.size first l (λ v p q.
+      sealed-from v q (closed v p q)))) ∙ e

@@ -1,5 +1,6 @@
 -- Runs spare the sealed words of an audited state, and no domain becomes live in them.
-use Rattle.std.proofs.Common.{◌≡◌, ℕ, zero, suc, ◌+◌, ◌-◌, ◌*◌, ◌<◌, true, false, nat_lt, List, [], ◌∷◌, ◌++◌, length, refl, sym, ◌∙◌, ap, subst, arith, if◌then◌else◌, Option, Some, None}
+use Rattle.std.proofs.Common.{◌≡◌, ℕ, zero, suc, ◌+◌, ◌-◌, ◌*◌, ◌<◌, true, false, nat_lt, List, [], ◌∷◌, ◌++◌, length, refl, sym, ◌∙◌, ap}
+use Rattle.std.proofs.Common.{subst, arith, if◌then◌else◌, Option, Some, None}
 use Rattle.std.specs.Prelude.{IsTrue, slice_index, slice_index_or, option_to_list}
 use Rattle.std.proofs.lemmas.List.{append-nil}
 use Rattle.std.proofs.lemmas.Bool.{ltb-true}
@@ -25,7 +26,8 @@ use Rattle.mx_audit.proofs.CallLaws.{Stands, IsSpared, SparesChange, SparesGive,
 use Rattle.mx_audit.proofs.LiveLaws.{IsHome, Leads, IsClosed, all-each, live-least, live-closed}
 
 -- a grant that doesn't cover a word leaves its permission
-at-changed : (first count : ℕ) (o : Option Perm) (g : List Grant) (w : ℕ) → covers first count w ≡ false → at (changed_grants first count o g) w ≡ at g w
+at-changed : (first count : ℕ) (o : Option Perm) (g : List Grant) (w : ℕ) → covers first count w ≡ false
+    → at (changed_grants first count o g) w ≡ at g w
 at-changed first count None g w e = refl
 at-changed first count (Some p) g w e = newest-append P.None g (grant_of first count p) w ∙ ap (λ b. if b then p else at g w) e
 
@@ -35,7 +37,8 @@ at-granted first count given n [] i w e = refl
 at-granted first count given n (g ∷ gs) zero w e = at-changed first count (given n) g w e
 at-granted first count given n (g ∷ gs) (suc i) w e = at-granted first count given (n + 1) gs i w e
 
-at-after : (grants : List (List Grant)) (o : Option Change) (d w : ℕ) → SparesChange w o → at (grants_of (grants_after grants o) d) w ≡ at (grants_of grants d) w
+at-after : (grants : List (List Grant)) (o : Option Change) (d w : ℕ) → SparesChange w o
+    → at (grants_of (grants_after grants o) d) w ≡ at (grants_of grants d) w
 at-after grants None d w p = refl
 at-after grants (Some c) d w p = at-granted c.first c.count c.given 1 grants (d - 1) w p
 
@@ -44,12 +47,14 @@ owner-after gives None w p = ap (λ (gs : List Give). owner gs w) (append-nil gi
 owner-after gives (Some g) w p = newest-append 0 gives g w ∙ ap (λ b. if b then g.value else owner gives w) p
 
 -- what a state answers of a word after a turn that spares it
-reads-perm : (s : State) (m : Made) (d w : ℕ) → m.core.size ≡ s.core.size → SparesChange w m.change → (reads (after s m)).perm d w ≡ (reads s).perm d w
+reads-perm : (s : State) (m : Made) (d w : ℕ) → m.core.size ≡ s.core.size → SparesChange w m.change
+    → (reads (after s m)).perm d w ≡ (reads s).perm d w
 reads-perm s m d w e p =
     ap (λ n. if nat_lt w n then at (grants_of (grants_after s.grants m.change) d) w else P.None) e
     ∙ ap (λ (x : Perm). if nat_lt w s.core.size then x else P.None) (at-after s.grants m.change d w p)
 
-reads-owner : (s : State) (m : Made) (w : ℕ) → m.core.size ≡ s.core.size → SparesGive w m.give → (reads (after s m)).owner w ≡ (reads s).owner w
+reads-owner : (s : State) (m : Made) (w : ℕ) → m.core.size ≡ s.core.size → SparesGive w m.give
+    → (reads (after s m)).owner w ≡ (reads s).owner w
 reads-owner s m w e p =
     ap (λ n. if nat_lt w n then owner (s.gives ++ option_to_list m.give) w else 0) e
     ∙ ap (λ (x : ℕ). if nat_lt w s.core.size then x else 0) (owner-after s.gives m.give w p)
@@ -73,7 +78,8 @@ follows-turn L w s h st sp =
         valid = valid-turned (reads s) s.core h st.valid;
         heaps = λ d v i c.
             let j : IsModule (length s.core.modules) d = subst (λ n. IsModule n d) count i in
-            let e : IsTrue (covers (heap_in s.core.modules d).first (heap_in s.core.modules d).count v) = subst (λ a. IsTrue (covers a.first a.count v)) (k.heaps d) c in
+            let e : IsTrue (covers (heap_in s.core.modules d).first (heap_in s.core.modules d).count v) =
+            subst (λ a. IsTrue (covers a.first a.count v)) (k.heaps d) c in
             reads-owner s m v size (k.owners d v j e) ∙ st.heaps d v j e;
         closed = k.closed;
         modules = λ d l. subst (λ n. IsModule n d) (sym count) (st.modules d l);
@@ -102,7 +108,8 @@ follows-trans L w s t u p q = record {
 follows-same : (L : ℕ → Type 0) (w : ℕ) (s : State) → Stands L (reads s) s.core → Follows L w s s
 follows-same L w s p = record { stands = p; size = refl; owner = refl; rights = λ d. refl; bytes = λ k l. refl }
 
-pub follows-run : (L : ℕ → Type 0) (w : ℕ) (schedule : Schedule) (n : ℕ) (s : State) → Stands L (reads s) s.core → IsSpared L (reads s) w → Follows L w s (run schedule n s)
+pub follows-run : (L : ℕ → Type 0) (w : ℕ) (schedule : Schedule) (n : ℕ) (s : State) → Stands L (reads s) s.core → IsSpared L (reads s) w
+    → Follows L w s (run schedule n s)
 follows-run L w schedule zero s p sp = follows-same L w s p
 follows-run L w schedule (suc n) s p sp = elim (is_stopped schedule s) as
     (λ b. Follows L w s (elim b [ true ↦ s | false ↦ run schedule n (turn s (hart_of schedule s.core)) ])) [
@@ -123,8 +130,11 @@ modules-closed c v = record {
   where
     home : (h : ℕ) → h < length c.harts → IsHome (IsModule (length c.modules)) (hart_at c h)
     home h l =
-        let p = v.harts h l in
-        (p.domain, all-weaker (IsFrame (length c.modules)) (λ (f : Frame). IsModule (length c.modules) f.caller) (hart_at c h).frames (λ f q. q.caller) p.frames)
+        let p = v.harts h l in (
+          p.domain,
+          all-weaker (IsFrame (length c.modules)) (λ (f : Frame). IsModule (length c.modules) f.caller) (hart_at c h).frames
+              (λ f q. q.caller) p.frames,
+        )
 
     -- an index in the list reads the same with any default
     same-index : (hs : List Hart) (i : ℕ) (a b : Hart) → i < length hs → slice_index_or hs i b ≡ slice_index_or hs i a
@@ -149,10 +159,12 @@ spared-sealed : (s : State) (w : ℕ) → IsSealed (reads s) s.core w → IsSpar
 spared-sealed s w p = record { owner = p.owner; rights = p.rights }
 
 -- a sealed word in a run
-pub sealed-run : (schedule : Schedule) (n : ℕ) (s : State) (w : ℕ) → IsAudited s → IsSealed (reads s) s.core w → Follows (IsLive s.core) w s (run schedule n s)
+pub sealed-run : (schedule : Schedule) (n : ℕ) (s : State) (w : ℕ) → IsAudited s → IsSealed (reads s) s.core w
+    → Follows (IsLive s.core) w s (run schedule n s)
 sealed-run schedule n s w p q = follows-run (IsLive s.core) w schedule n s (stands-audited s p) (spared-sealed s w q)
 
-pub sealed-still : (schedule : Schedule) (n : ℕ) (s : State) (w : ℕ) → IsAudited s → IsSealed (reads s) s.core w → IsSealed (reads (run schedule n s)) (run schedule n s).core w
+pub sealed-still : (schedule : Schedule) (n : ℕ) (s : State) (w : ℕ) → IsAudited s → IsSealed (reads s) s.core w
+    → IsSealed (reads (run schedule n s)) (run schedule n s).core w
 sealed-still schedule n s w p q =
     let t = run schedule n s in
     let f = sealed-run schedule n s w p q in
@@ -170,7 +182,8 @@ behind-spared s p = record {
       let d : IsLive s.core 0 = subst (IsLive s.core) (ap (λ b. if b then owner s.gives s.core.size else 0) (not-below s.core.size)) l in
       let m = ((stands-audited s p).modules 0 d).first in let z : ⊥ = omega (arith, m) in z;
   rights = λ d l e.
-      let q : P.None ≡ P.ReadWrite = sym (ap (λ b. if b then at (grants_of s.grants d) s.core.size else P.None) (not-below s.core.size)) ∙ e in
+      let q : P.None ≡ P.ReadWrite = sym (ap (λ b. if b then at (grants_of s.grants d) s.core.size else P.None) (not-below s.core.size))
+      ∙ e in
       let z : ⊥ = cc in z;
 }
   where

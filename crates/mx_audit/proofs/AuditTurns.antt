@@ -1,5 +1,6 @@
 -- A turn keeps inside a closed set of domains, and spares a word that no domain of the set owns or may write.
-use Rattle.std.proofs.Common.{◌≡◌, ℕ, ◌+◌, ◌-◌, ◌*◌, ◌/◌, ◌<◌, ◌≤◌, Bool, true, false, not, cond, nat_lt, nat_le, ◌==◌, ◌&&◌, List, [], ◌∷◌, length, refl, sym, subst, if◌then◌else◌, Option, Some, None}
+use Rattle.std.proofs.Common.{◌≡◌, ℕ, ◌+◌, ◌-◌, ◌*◌, ◌/◌, ◌<◌, ◌≤◌, Bool, true, false, not, cond, nat_lt, nat_le, ◌==◌, ◌&&◌, List, [], ◌∷◌}
+use Rattle.std.proofs.Common.{length, refl, sym, subst, if◌then◌else◌, Option, Some, None}
 use Rattle.std.proofs.Common.{map as list_map}
 use Rattle.std.proofs.Math.ListN.{get_or-eq_default}
 use Rattle.std.specs.Prelude.{IfSome, slice_set}
@@ -21,7 +22,9 @@ use Rattle.mx_model.specs.Gates.{top}
 use Rattle.mx_model.specs.Reads.{Reads, Change}
 use Rattle.mx_model.specs.Serve.{Served, serve}
 use Rattle.mx_model.specs.State.{Core, Hart, Module, no_hart, no_module, hart_at, with_hart, with_cache, with_module, module_at}
-use Rattle.mx_model.specs.Turn.{Action, Rests, Waits, Serves, Asks, Traps, Bounces, Crosses, Returns, Runs, Writes, Decided, Made, is_denied, acted, asked, served, done, trapped, given_up, killed, over_frame, enacted, decide, by_status, counted, turned, is_served_now, fault_answer}
+use Rattle.mx_model.specs.Turn.{Action, Rests, Waits, Serves, Asks, Traps, Bounces, Crosses, Returns, Runs, Writes, Decided, Made}
+use Rattle.mx_model.specs.Turn.{is_denied, acted, asked, served, done, trapped, given_up, killed, over_frame, enacted, decide, by_status}
+use Rattle.mx_model.specs.Turn.{counted, turned, is_served_now, fault_answer}
 use Rattle.mx_model.specs.Valid.{IsValid}
 use Rattle.mx_model.proofs.SetLaws.{part-set}
 use Rattle.mx_model.proofs.ListLaws.{all-append, all-in, all-last, all-set, all-take}
@@ -34,7 +37,8 @@ use Rattle.mx_audit.proofs.CallLaws.{Stands, IsSpared, Keeps, keeps-core, keeps-
 use Rattle.mx_audit.proofs.LiveLaws.{IsHome, IsClosed}
 
 -- a core with one hart, or one hart's caches changed
-keeps-hart : (L : ℕ → Type 0) (w : ℕ) (ram : List ℕ) (modules : List Module) (e : Core) (change : Option Change) (give : Option Give) (h : ℕ) (hart : Hart) →
+keeps-hart : (L : ℕ → Type 0) (w : ℕ) (ram : List ℕ) (modules : List Module) (e : Core) (change : Option Change) (give : Option Give)
+    (h : ℕ) (hart : Hart) →
     Keeps L w ram modules e change give → IsHome L hart → Keeps L w ram modules (with_hart h hart e) change give
 keeps-hart L w ram modules e change give h hart p q = record {
   closed = record { harts = all-set (IsHome L) e.harts h hart p.closed.harts q; gates = p.closed.gates };
@@ -57,30 +61,36 @@ keeps-cache L w ram modules e h cache p = record {
 }
 
 -- a served call, in its hart
-keeps-done : (L : ℕ → Type 0) (w : ℕ) (ram : List ℕ) (modules : List Module) (h : ℕ) (hart : Hart) (s : Served) → Keeps L w ram modules s.core s.change s.give → IsHome L hart →
+keeps-done : (L : ℕ → Type 0) (w : ℕ) (ram : List ℕ) (modules : List Module) (h : ℕ) (hart : Hart) (s : Served)
+    → Keeps L w ram modules s.core s.change s.give → IsHome L hart →
     Keeps L w ram modules (done h hart s).core s.change s.give
-keeps-done L w ram modules h hart s p q = elim s.stop as (λ b. Keeps L w ram modules (done h hart (record s { stop = b })).core s.change s.give) [
-  | true ↦ keeps-hart L w ram modules s.core s.change s.give h _ p q
-  | false ↦ keeps-hart L w ram modules s.core s.change s.give h _ p q
-]
+keeps-done L w ram modules h hart s p q = elim s.stop as (λ b.
+    Keeps L w ram modules (done h hart (record s { stop = b })).core s.change s.give) [
+      | true ↦ keeps-hart L w ram modules s.core s.change s.give h _ p q
+      | false ↦ keeps-hart L w ram modules s.core s.change s.give h _ p q
+    ]
 
 abbrev KeepsMade : (ℕ → Type 0) → ℕ → Core → Made → Type 0
 KeepsMade L w c m = Keeps L w c.ram c.modules m.core m.change m.give
 
-keeps-served : (L : ℕ → Type 0) (w : ℕ) (r : Reads) (c : Core) (h : ℕ) (hart : Hart) (call : Call) → Stands L r c → IsSpared L r w → IsHome L hart → L call.domain →
+keeps-served : (L : ℕ → Type 0) (w : ℕ) (r : Reads) (c : Core) (h : ℕ) (hart : Hart) (call : Call) → Stands L r c → IsSpared L r w
+    → IsHome L hart → L call.domain →
     KeepsMade L w c (served r c h hart call)
 keeps-served L w r c h hart call s sp p l = keeps-done L w c.ram c.modules h hart (serve r c call) (keeps-serve L w r c call s sp l) p
 
-keeps-asked : (L : ℕ → Type 0) (w : ℕ) (r : Reads) (c : Core) (h : ℕ) (hart : Hart) (call : Call) (b : Bool) → Stands L r c → IsSpared L r w → IsHome L hart → L call.domain →
+keeps-asked : (L : ℕ → Type 0) (w : ℕ) (r : Reads) (c : Core) (h : ℕ) (hart : Hart) (call : Call) (b : Bool) → Stands L r c → IsSpared L r w
+    → IsHome L hart → L call.domain →
     KeepsMade L w c (asked r c h hart call b)
 keeps-asked L w r c h hart call true s sp p l = keeps-served L w r c h hart call s sp p l
 keeps-asked L w r c h hart call false s sp p l = keeps-hart L w c.ram c.modules c None None h _ (keeps-core L w c s.closed) p
 
 -- the top frame given up
-keeps-over : (L : ℕ → Type 0) (w : ℕ) (ram : List ℕ) (modules : List Module) (e : Core) (h : ℕ) (hart : Hart) (frame : Frame) (regs : List ℕ) →
+keeps-over : (L : ℕ → Type 0) (w : ℕ) (ram : List ℕ) (modules : List Module) (e : Core) (h : ℕ) (hart : Hart) (frame : Frame)
+    (regs : List ℕ) →
     Keeps L w ram modules e None None → IsHome L hart → L frame.caller → Keeps L w ram modules (over_frame e h hart frame regs) None None
 keeps-over L w ram modules e h hart frame regs p q l =
-    keeps-cache L w ram modules _ h _ (keeps-hart L w ram modules e None None h _ p (l, all-take (λ (f : Frame). L f.caller) (length hart.frames - 1) hart.frames q.1))
+    keeps-cache L w ram modules _ h _ (keeps-hart L w ram modules e None None h _ p
+    (l, all-take (λ (f : Frame). L f.caller) (length hart.frames - 1) hart.frames q.1))
 
 -- a fault
 keeps-killed : (L : ℕ → Type 0) (w d cause : ℕ) (c : Core) → IsClosed L c → Keeps L w c.ram c.modules (killed d cause c) None None
@@ -97,23 +107,32 @@ keeps-killed L w d cause c p = elim ((module_at c d).kills && not (cause == 20))
       | false ↦ keeps-core L w c p
     ]
 
-keeps-given_up : (L : ℕ → Type 0) (w : ℕ) (ram : List ℕ) (modules : List Module) (e : Core) (h : ℕ) (hart : Hart) (cause : ℕ) (o : Option Frame) →
-    Keeps L w ram modules e None None → IsHome L hart → IfSome o (λ f. L f.caller) → Keeps L w ram modules (given_up e h hart cause o) None None
+keeps-given_up : (L : ℕ → Type 0) (w : ℕ) (ram : List ℕ) (modules : List Module) (e : Core) (h : ℕ) (hart : Hart) (cause : ℕ)
+    (o : Option Frame) →
+    Keeps L w ram modules e None None → IsHome L hart → IfSome o (λ f. L f.caller)
+    → Keeps L w ram modules (given_up e h hart cause o) None None
 keeps-given_up L w ram modules e h hart cause None p q l = keeps-hart L w ram modules e None None h _ p q
-keeps-given_up L w ram modules e h hart cause (Some frame) p q l = keeps-over L w ram modules e h hart frame (slice_set hart.regs 10 (fault_answer cause)) p q l
+keeps-given_up L w ram modules e h hart cause (Some frame) p q l =
+    keeps-over L w ram modules e h hart frame (slice_set hart.regs 10 (fault_answer cause)) p q l
 
-keeps-trapped : (L : ℕ → Type 0) (w : ℕ) (c : Core) (h : ℕ) (hart : Hart) (cause value : ℕ) → IsClosed L c → IsHome L hart → KeepsMade L w c (trapped c h hart cause value)
+keeps-trapped : (L : ℕ → Type 0) (w : ℕ) (c : Core) (h : ℕ) (hart : Hart) (cause value : ℕ) → IsClosed L c → IsHome L hart
+    → KeepsMade L w c (trapped c h hart cause value)
 keeps-trapped L w c h hart cause value p q =
-    keeps-given_up L w c.ram c.modules (killed hart.domain cause c) h hart cause (top hart.frames) (keeps-killed L w hart.domain cause c p) q
+    keeps-given_up L w c.ram c.modules (killed hart.domain cause c) h hart cause (top hart.frames) (keeps-killed L w hart.domain cause c p)
+    q
     (all-last (λ (f : Frame). L f.caller) hart.frames None q.1 tt)
 
 -- a store that isn't denied is to a word of RAM with read-write
 store-word : (r : Reads) (c : Core) (d address : ℕ) → is_denied r c d address A.Write ≡ false →
     (ram_base ≤ address) × (allows (r.perm d ((address - ram_base) / 4)) A.Write ≡ true)
 store-word r c d address e = elim (in_ram address c.size) as
-    (λ b. in_ram address c.size ≡ b → not (allows (option_map_or (r.perm d) (if b then Some ((address - ram_base) / 4) else None) P.None) A.Write) ≡ false →
+    (λ b. in_ram address c.size ≡ b → not (allows (option_map_or (r.perm d) (if b then Some ((address - ram_base) / 4) else None) P.None)
+    A.Write) ≡ false →
     (ram_base ≤ address) × (allows (r.perm d ((address - ram_base) / 4)) A.Write ≡ true)) [
-      | true ↦ λ t f. (leb-true ram_base address (and_parts (nat_le ram_base address) (nat_lt (address - ram_base) (4 * c.size)) t).0, not-false _ f)
+      | true ↦ λ t f. (
+        leb-true ram_base address (and_parts (nat_le ram_base address) (nat_lt (address - ram_base) (4 * c.size)) t).0,
+        not-false _ f,
+      )
       | false ↦ λ t f. absurd (let q : ⊥ = cc in q)
     ] refl e
   where
@@ -121,7 +140,8 @@ store-word r c d address e = elim (in_ram address c.size) as
     not-false true p = refl
     not-false false p = sym p
 
-keeps-store : (L : ℕ → Type 0) (w : ℕ) (r : Reads) (c : Core) (d address size value : ℕ) → IsClosed L c → IsSpared L r w → L d → IsStore r c d address size →
+keeps-store : (L : ℕ → Type 0) (w : ℕ) (r : Reads) (c : Core) (d address size value : ℕ) → IsClosed L c → IsSpared L r w → L d
+    → IsStore r c d address size →
     Keeps L w c.ram c.modules (record c { ram = put_at c.ram (address - ram_base) size value }) None None
 keeps-store L w r c d address size value p sp l st =
     let q = store-word r c d address st.0 in
@@ -136,7 +156,8 @@ keeps-store L w r c d address size value p sp l st =
     }
 
 -- an action
-keeps-acted : (L : ℕ → Type 0) (w : ℕ) (r : Reads) (c : Core) (h : ℕ) (hart : Hart) (action : Action) → Stands L r c → IsSpared L r w → IsHome L hart →
+keeps-acted : (L : ℕ → Type 0) (w : ℕ) (r : Reads) (c : Core) (h : ℕ) (hart : Hart) (action : Action) → Stands L r c → IsSpared L r w
+    → IsHome L hart →
     IsInside L r c hart action → KeepsMade L w c (acted r c h hart action)
 keeps-acted L w r c h hart Rests s sp p i = keeps-core L w c s.closed
 keeps-acted L w r c h hart Waits s sp p i = keeps-core L w c s.closed
@@ -154,7 +175,8 @@ keeps-acted L w r c h hart (Writes address size value) s sp p i =
     keeps-hart L w c.ram c.modules _ None None h _ (keeps-store L w r c hart.domain address size value s.closed sp p.0 i) p
 
 -- after its looks
-keeps-behind : (L : ℕ → Type 0) (w : ℕ) (r : Reads) (c : Core) (h : ℕ) (hart : Hart) (d : Decided) → Stands L r c → IsSpared L r w → IsHome L hart →
+keeps-behind : (L : ℕ → Type 0) (w : ℕ) (r : Reads) (c : Core) (h : ℕ) (hart : Hart) (d : Decided) → Stands L r c → IsSpared L r w
+    → IsHome L hart →
     IsInside L r c hart d.action → KeepsMade L w c (acted r (looked_all r h d.looks c) h hart d.action)
 keeps-behind L w r c h hart d s sp p i =
     let seen = record c { caches = (looked_all r h d.looks c).caches } in
@@ -171,19 +193,23 @@ keeps-behind L w r c h hart d s sp p i =
 abbrev enacted_by : Reads → Core → ℕ → Hart → Made
 enacted_by r c h hart = let d = by_status r c h hart hart.status in acted r (looked_all r h d.looks c) h hart d.action
 
-keeps-there : (L : ℕ → Type 0) (w : ℕ) (r : Reads) (c : Core) (h : ℕ) → Stands L r c → IsSpared L r w → h < length c.harts → KeepsMade L w c (enacted r c h (decide r c h))
+keeps-there : (L : ℕ → Type 0) (w : ℕ) (r : Reads) (c : Core) (h : ℕ) → Stands L r c → IsSpared L r w → h < length c.harts
+    → KeepsMade L w c (enacted r c h (decide r c h))
 keeps-there L w r c h s sp l =
     let p = all-in (IsHome L) c.harts no_hart s.closed.harts h l in
     keeps-behind L w r c h (hart_at c h) (decide r c h) s sp p (inside-decide L r c h p s.closed.gates (s.valid.harts h l).status)
 
-keeps-nobody : (L : ℕ → Type 0) (w : ℕ) (r : Reads) (c : Core) (h : ℕ) (hart : Hart) → hart ≡ no_hart → IsClosed L c → KeepsMade L w c (enacted_by r c h hart)
+keeps-nobody : (L : ℕ → Type 0) (w : ℕ) (r : Reads) (c : Core) (h : ℕ) (hart : Hart) → hart ≡ no_hart → IsClosed L c
+    → KeepsMade L w c (enacted_by r c h hart)
 keeps-nobody L w r c h hart e p = subst (λ (x : Hart). KeepsMade L w c (enacted_by r c h x)) (sym e) (keeps-core L w c p)
 
-keeps-enacted : (L : ℕ → Type 0) (w : ℕ) (r : Reads) (c : Core) (h : ℕ) → Stands L r c → IsSpared L r w → KeepsMade L w c (enacted r c h (decide r c h))
-keeps-enacted L w r c h s sp = elim (nat_lt h (length c.harts)) as (λ b. nat_lt h (length c.harts) ≡ b → KeepsMade L w c (enacted r c h (decide r c h))) [
-  | true ↦ λ e. keeps-there L w r c h s sp (ltb-true h (length c.harts) e)
-  | false ↦ λ e. keeps-nobody L w r c h (hart_at c h) (get_or-eq_default c.harts no_hart (ltb-false h (length c.harts) e)) s.closed
-] refl
+keeps-enacted : (L : ℕ → Type 0) (w : ℕ) (r : Reads) (c : Core) (h : ℕ) → Stands L r c → IsSpared L r w
+    → KeepsMade L w c (enacted r c h (decide r c h))
+keeps-enacted L w r c h s sp = elim (nat_lt h (length c.harts)) as (λ b. nat_lt h (length c.harts) ≡ b
+    → KeepsMade L w c (enacted r c h (decide r c h))) [
+      | true ↦ λ e. keeps-there L w r c h s sp (ltb-true h (length c.harts) e)
+      | false ↦ λ e. keeps-nobody L w r c h (hart_at c h) (get_or-eq_default c.harts no_hart (ltb-false h (length c.harts) e)) s.closed
+    ] refl
 
 -- hearing
 home-hearing : (L : ℕ → Type 0) (i h : ℕ) (hart : Hart) → IsHome L hart → IsHome L (hearing h (i, hart))
@@ -192,7 +218,8 @@ home-hearing L i h hart p = elim (i == h) as (λ b. IsHome L (cond b hart (recor
   | false ↦ p
 ]
 
-homes-hearing : (L : ℕ → Type 0) (i h : ℕ) (hs : List Hart) → AllByRecursion (IsHome L) hs → AllByRecursion (IsHome L) (list_map (hearing h) (enumerate_from i hs))
+homes-hearing : (L : ℕ → Type 0) (i h : ℕ) (hs : List Hart) → AllByRecursion (IsHome L) hs
+    → AllByRecursion (IsHome L) (list_map (hearing h) (enumerate_from i hs))
 homes-hearing L i h [] p = tt
 homes-hearing L i h (x ∷ xs) p = (home-hearing L i h x p.0, homes-hearing L (i + 1) h xs p.1)
 

@@ -19,7 +19,8 @@ use Rattle.mx_audit.specs.Sealed.{is_sealed, IsAudited}
 abbrev small_state : State
 small_state = record {
   core = core;
-  grants = (grant 0 4 P.ExecuteRead ∷ grant 5 2 P.ReadWrite ∷ grant 8 4 P.ReadWrite ∷ []) ∷ (grant 12 2 P.ReadWrite ∷ grant 16 1 P.ExecuteRead ∷ []) ∷ [];
+  grants = (grant 0 4 P.ExecuteRead ∷ grant 5 2 P.ReadWrite ∷ grant 8 4 P.ReadWrite ∷ [])
+      ∷ (grant 12 2 P.ReadWrite ∷ grant 16 1 P.ExecuteRead ∷ []) ∷ [];
   gives = give 0 12 1 ∷ give 12 2 2 ∷ give 16 1 2 ∷ [];
   console = [];
   notes = [];

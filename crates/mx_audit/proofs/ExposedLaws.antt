@@ -23,7 +23,8 @@ some-from f marks (suc n) source w l p = elim (cases_eq source (suc n)) [
   | inr ne ↦ or_left (some_exposes f marks n w) (exposes f marks (suc n) w) (some-from f marks n source w (omega arith) p)
 ]
 
-none-some : (f : Flat) (marks : List Bool) (n w : ℕ) → ((source : ℕ) → source ≤ n → exposes f marks source w ≡ true → ⊥) → some_exposes f marks n w ≡ false
+none-some : (f : Flat) (marks : List Bool) (n w : ℕ) → ((source : ℕ) → source ≤ n → exposes f marks source w ≡ true → ⊥)
+    → some_exposes f marks n w ≡ false
 none-some f marks zero w h = false_from_ne_true (exposes f marks zero w) (h zero (omega arith))
 none-some f marks (suc n) w h =
     or_from (some_exposes f marks n w) (exposes f marks (suc n) w) (none-some f marks n w (λ source l. h source (omega arith)))
@@ -38,11 +39,13 @@ module _ (f : Flat) (marks : List Bool) (valid : IsValid f.core) (live : MarkLiv
     rights = λ d l p. both_ways (is_exposed f marks w) e (by d l p (live-module f.core valid d l));
   }
     where
-      by : (d : ℕ) → IsLive f.core d → (flat_reads f).perm d w ≡ P.ReadWrite → IsModule (length f.core.modules) d → is_exposed f marks w ≡ true
+      by : (d : ℕ) → IsLive f.core d → (flat_reads f).perm d w ≡ P.ReadWrite → IsModule (length f.core.modules) d
+          → is_exposed f marks w ≡ true
       by zero l p m = absurd (let first = m.first in omega arith)
       by (suc d) l p m =
           some-from f marks (length f.core.modules) (suc d) w (let last = m.last in omega arith)
-          (and_from (is_marked marks (suc d)) (same ((flat_reads f).perm (suc d) w) P.ReadWrite) ((live (suc d)).1 l) (ap (λ (p : Perm). same p P.ReadWrite) p))
+          (and_from (is_marked marks (suc d)) (same ((flat_reads f).perm (suc d) w) P.ReadWrite) ((live (suc d)).1 l)
+          (ap (λ (p : Perm). same p P.ReadWrite) p))
 
   sealed-closed : IsSealed (flat_reads f) f.core w → is_exposed f marks w ≡ false
   sealed-closed s = none-some f marks (length f.core.modules) w by
@@ -57,5 +60,6 @@ module _ (f : Flat) (marks : List Bool) (valid : IsValid f.core) (live : MarkLiv
   sealed_is_closed = by (is_exposed f marks w) refl
     where
       by : (b : Bool) → is_exposed f marks w ≡ b → is_sealed (flat_reads f) f.core w ≡ not b
-      by true e = false_from_ne_true (is_sealed (flat_reads f) f.core w) (λ s. both_ways (is_exposed f marks w) (sealed-closed ((sealed-rounds (flat_reads f) f.core w).0 s)) e)
+      by true e = false_from_ne_true (is_sealed (flat_reads f) f.core w) (λ s.
+          both_ways (is_exposed f marks w) (sealed-closed ((sealed-rounds (flat_reads f) f.core w).0 s)) e)
       by false e = (sealed-rounds (flat_reads f) f.core w).1 (closed-sealed e)

@@ -1,5 +1,6 @@
 -- The domains that the rounds give are just the live ones, and a word passes the test by rounds where it is sealed.
-use Rattle.std.proofs.Common.{◌≡◌, ℕ, zero, suc, ◌≤◌, ◌↔◌, Bool, true, false, not, cond, nat_lt, ◌==◌, ◌&&◌, ◌||◌, List, [], ◌∷◌, ◌++◌, length, refl, sym, ◌∙◌, ap, subst, arith, eqb-true, IsTrue, inl, inr}
+use Rattle.std.proofs.Common.{◌≡◌, ℕ, zero, suc, ◌≤◌, ◌↔◌, Bool, true, false, not, cond, nat_lt, ◌==◌, ◌&&◌, ◌||◌, List, [], ◌∷◌, ◌++◌}
+use Rattle.std.proofs.Common.{length, refl, sym, ◌∙◌, ap, subst, arith, eqb-true, IsTrue, inl, inr}
 use Rattle.std.proofs.Common.{map as list_map}
 use Rattle.std.specs.List.{AllByRecursion, Contains, list_all, list_any, flat_map}
 use Rattle.std.proofs.lemmas.Bool.{ltb-true, lt-ltb, or_right, and_from, both_ways, not-true, not_from_false, false_from_ne_true, and_parts}
@@ -47,7 +48,11 @@ live-least L c d p (IsTarget gate k l) = all-contains (Leads L) c.gates gate p.g
 -- the live domains are closed
 pub live-closed : (c : Core) → IsClosed (IsLive c) c
 live-closed c = record {
-  harts = all-each (IsHome (IsLive c)) c.harts (λ hart k. (HasHart hart k, all-each (λ (f : Frame). IsLive c f.caller) hart.frames (λ frame l. HasFrame hart k frame l)));
+  harts = all-each (IsHome (IsLive c)) c.harts (λ hart k. (
+    HasHart hart k,
+    all-each (λ (f : Frame). IsLive c f.caller) hart.frames
+        (λ frame l. HasFrame hart k frame l),
+  ));
   gates = all-each (Leads (IsLive c)) c.gates (λ gate k l. IsTarget gate k l);
 }
 
@@ -80,7 +85,8 @@ in-all P (x ∷ xs) d h p = elim (x == d) as (λ b. (x == d) ≡ b → (b || is_
 ] refl p
 
 -- all elements of a map and of a flat map
-all-callers : (P : ℕ → Type 0) (fs : List Frame) → AllByRecursion (λ (f : Frame). P f.caller) fs → AllByRecursion P (list_map (λ (f : Frame). f.caller) fs)
+all-callers : (P : ℕ → Type 0) (fs : List Frame) → AllByRecursion (λ (f : Frame). P f.caller) fs
+    → AllByRecursion P (list_map (λ (f : Frame). f.caller) fs)
 all-callers P [] h = tt
 all-callers P (f ∷ fs) h = (h.0, all-callers P fs h.1)
 
@@ -94,7 +100,8 @@ all-targets : (P : ℕ → Type 0) (live : List ℕ) (gates : List Gate) → All
     AllByRecursion P (list_map (λ (gate : Gate). gate.target) (passed live gates))
 all-targets P live [] h p = tt
 all-targets P live (g ∷ gs) h p = elim (is_in live g.domain) as
-    (λ b. is_in live g.domain ≡ b → AllByRecursion P (list_map (λ (gate : Gate). gate.target) (cond b (g ∷ passed live gs) (passed live gs)))) [
+    (λ b. is_in live g.domain ≡ b → AllByRecursion P (list_map (λ (gate : Gate). gate.target)
+    (cond b (g ∷ passed live gs) (passed live gs)))) [
       | true ↦ λ e. (h.0 (in-all P live g.domain p e), all-targets P live gs h.1 p)
       | false ↦ λ e. all-targets P live gs h.1 p
     ] refl
@@ -106,7 +113,8 @@ all-rounds : (P : ℕ → Type 0) (n : ℕ) (gates : List Gate) (live : List ℕ
     AllByRecursion P (rounds n gates live)
 all-rounds P zero gates live h p = p
 all-rounds P (suc n) gates live h p =
-    all-rounds P n (not_passed live gates) (live ++ list_map (λ (gate : Gate). gate.target) (passed live gates)) (all-not_passed (Leads P) live gates h)
+    all-rounds P n (not_passed live gates) (live ++ list_map (λ (gate : Gate). gate.target) (passed live gates))
+    (all-not_passed (Leads P) live gates h)
     (all-join P live (list_map (λ (gate : Gate). gate.target) (passed live gates)) p (all-targets P live gates h p))
 
 -- the rounds keep what is live
@@ -120,7 +128,8 @@ in-rounds (suc n) gates live d p =
 abbrev is_passed : List ℕ → Gate → Bool
 is_passed live gate = is_in live gate.domain
 
-none-passed : (live : List ℕ) (gates : List Gate) → list_any (is_passed live) gates ≡ false → (passed live gates ≡ []) × (not_passed live gates ≡ gates)
+none-passed : (live : List ℕ) (gates : List Gate) → list_any (is_passed live) gates ≡ false
+    → (passed live gates ≡ []) × (not_passed live gates ≡ gates)
 none-passed live [] e = (refl, refl)
 none-passed live (g ∷ gs) e = elim (is_in live g.domain) as
     (λ b. (b || list_any (is_passed live) gs) ≡ false →
@@ -170,13 +179,16 @@ rounds-lead (suc n) gates live l = elim (list_any (is_passed live) gates) as
           let targets = list_map (λ (gate : Gate). gate.target) (passed live gates) in
           let fewer = length-filter-lt (is_passed live) gates e in
           leads-split (rounds (suc n) gates live) live gates
-          (all-into (rounds (suc n) gates live) targets (λ d p. in-rounds n (not_passed live gates) (live ++ targets) d (in-right live targets d p)))
+          (all-into (rounds (suc n) gates live) targets (λ d p.
+          in-rounds n (not_passed live gates) (live ++ targets) d (in-right live targets d p)))
           (rounds-lead n (not_passed live gates) (live ++ targets) (omega (arith, fewer, l)))
-      | false ↦ λ e. subst (λ (xs : List ℕ). AllByRecursion (Leads (In xs)) gates) (sym (rounds-stay (suc n) gates live e)) (none-leads live gates e)
+      | false ↦ λ e. subst (λ (xs : List ℕ). AllByRecursion (Leads (In xs)) gates) (sym (rounds-stay (suc n) gates live e))
+          (none-leads live gates e)
     ] refl
 
 -- the domains with which the rounds begin
-callers-of : (P : ℕ → Type 0) (fs : List Frame) → AllByRecursion P (list_map (λ (f : Frame). f.caller) fs) → AllByRecursion (λ (f : Frame). P f.caller) fs
+callers-of : (P : ℕ → Type 0) (fs : List Frame) → AllByRecursion P (list_map (λ (f : Frame). f.caller) fs)
+    → AllByRecursion (λ (f : Frame). P f.caller) fs
 callers-of P [] h = tt
 callers-of P (f ∷ fs) h = (h.0, callers-of P fs h.1)
 
@@ -188,14 +200,16 @@ homes-of P (x ∷ xs) h =
 
 rounds-closed : (c : Core) → IsClosed (In (live c)) c
 rounds-closed c = record {
-  harts = homes-of (In (live c)) c.harts (all-into (live c) (flat_map domains_of c.harts) (in-rounds (length c.gates) c.gates (flat_map domains_of c.harts)));
+  harts = homes-of (In (live c)) c.harts (all-into (live c) (flat_map domains_of c.harts)
+      (in-rounds (length c.gates) c.gates (flat_map domains_of c.harts)));
   gates = rounds-lead (length c.gates) c.gates (flat_map domains_of c.harts) (omega arith);
 }
 
 -- the domains that the rounds give are just the live ones
 rounds-live : (c : Core) → AllByRecursion (IsLive c) (live c)
 rounds-live c =
-    all-rounds (IsLive c) (length c.gates) c.gates (flat_map domains_of c.harts) (live-closed c).gates (all-domains (IsLive c) c.harts (live-closed c).harts)
+    all-rounds (IsLive c) (length c.gates) c.gates (flat_map domains_of c.harts) (live-closed c).gates
+    (all-domains (IsLive c) c.harts (live-closed c).harts)
 
 pub live-rounds : (c : Core) (d : ℕ) → IsTrue (is_in (live c) d) ↔ IsLive c d
 live-rounds c d = (in-all (IsLive c) (live c) d (rounds-live c), live-least (In (live c)) c d (rounds-closed c))
@@ -218,7 +232,8 @@ from-rounds r c word e =
     let q = and_parts (nat_lt word c.size) owned p.0 in
     record {
       in_ram = ltb-true word c.size q.0;
-      owner = λ k. both_ways (is_in (live c) (r.owner word)) (not-true (is_in (live c) (r.owner word)) q.1) ((live-rounds c (r.owner word)).1 k);
+      owner = λ k. both_ways (is_in (live c) (r.owner word)) (not-true (is_in (live c) (r.owner word)) q.1)
+          ((live-rounds c (r.owner word)).1 k);
       rights = λ d k w. both_ways (same (r.perm d word) P.ReadWrite) (not-true (same (r.perm d word) P.ReadWrite)
           (in-all (λ x. is_kept r word x ≡ true) (live c) d (each_passes (is_kept r word) (live c) p.1) ((live-rounds c d).1 k)))
           (ap (λ x. same x P.ReadWrite) w);
@@ -233,7 +248,8 @@ to-rounds r c word s =
     (and_from (nat_lt word c.size) owned (lt-ltb word c.size s.in_ram)
     (not_from_false owner_live (false_from_ne_true owner_live (λ k. s.owner ((live-rounds c (r.owner word)).0 k)))))
     (all_pass (is_kept r word) (live c) (all-weaker (IsLive c) (λ x. is_kept r word x ≡ true) (live c)
-    (λ d k. not_from_false (same (r.perm d word) P.ReadWrite) (false_from_ne_true (same (r.perm d word) P.ReadWrite) (λ w. s.rights d k (same-is (r.perm d word) w)))) (rounds-live c)))
+    (λ d k. not_from_false (same (r.perm d word) P.ReadWrite)
+    (false_from_ne_true (same (r.perm d word) P.ReadWrite) (λ w. s.rights d k (same-is (r.perm d word) w)))) (rounds-live c)))
 
 pub sealed-rounds : (r : Reads) (c : Core) (word : ℕ) → IsTrue (is_sealed r c word) ↔ IsSealed r c word
 sealed-rounds r c word = (from-rounds r c word, to-rounds r c word)

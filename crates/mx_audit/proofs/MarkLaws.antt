@@ -1,5 +1,6 @@
 -- Marks of domains: one more is marked, a pass over frames or gates goes on, and nothing is left to mark.
-use Rattle.std.proofs.Common.{◌≡◌, ℕ, zero, suc, ◌+◌, ◌<◌, ◌≤◌, ◌⊎◌, inl, inr, Bool, true, false, not, cond, List, [], ◌∷◌, length, get_or, set, take, replicate, slice_get, Some, None, refl, sym, ap, ◌∙◌, subst, arith, IsTrue}
+use Rattle.std.proofs.Common.{◌≡◌, ℕ, zero, suc, ◌+◌, ◌<◌, ◌≤◌, ◌⊎◌, inl, inr, Bool, true, false, not, cond, List, [], ◌∷◌, length, get_or}
+use Rattle.std.proofs.Common.{set, take, replicate, slice_get, Some, None, refl, sym, ap, ◌∙◌, subst, arith, IsTrue}
 use Rattle.std.specs.List.{AllByRecursion, Contains}
 use Rattle.std.proofs.lemmas.List.Sums.{sum_by-set}
 use Rattle.std.proofs.lemmas.List.{get_or-set_same, get_or_default, length-set}
@@ -53,19 +54,24 @@ only-more c marks d p l e m = elim (marked-from marks d e m) [
 abbrev weight : Bool → ℕ
 weight b = cond (not b) 1 0
 
-pub fewer-unmarked : (marks : List Bool) (d : ℕ) → d < length marks → is_marked marks d ≡ false → unmarked (set marks d true) < unmarked marks
-fewer-unmarked marks d l e = let before : weight (is_marked marks d) ≡ 1 = ap weight e in omega (arith, before, sum_by-set weight marks d true false l)
+pub fewer-unmarked : (marks : List Bool) (d : ℕ) → d < length marks → is_marked marks d ≡ false
+    → unmarked (set marks d true) < unmarked marks
+fewer-unmarked marks d l e = let before : weight (is_marked marks d) ≡ 1 = ap weight e in
+    omega (arith, before, sum_by-set weight marks d true false l)
 
 -- what holds of the elements up to a place, one place on and at the end
-all-suc : {X : Type 0} (P : X → Type 0) (xs : List X) (i : ℕ) (x : X) → slice_get xs i ≡ Some x → AllByRecursion P (take i xs) → P x → AllByRecursion P (take (suc i) xs)
+all-suc : {X : Type 0} (P : X → Type 0) (xs : List X) (i : ℕ) (x : X) → slice_get xs i ≡ Some x → AllByRecursion P (take i xs) → P x
+    → AllByRecursion P (take (suc i) xs)
 all-suc P [] i x e h p = tt
 all-suc P (y ∷ ys) zero x e h p = (let same : x ≡ y = cc in subst P same p, tt)
 all-suc P (y ∷ ys) (suc i) x e h p = (h.0, all-suc P ys i x e h.1 p)
 
-pub all-next : {X : Type 0} (P : X → Type 0) (xs : List X) (i : ℕ) (x : X) → slice_get xs i ≡ Some x → AllByRecursion P (take i xs) → P x → AllByRecursion P (take (i + 1) xs)
+pub all-next : {X : Type 0} (P : X → Type 0) (xs : List X) (i : ℕ) (x : X) → slice_get xs i ≡ Some x → AllByRecursion P (take i xs) → P x
+    → AllByRecursion P (take (i + 1) xs)
 all-next P xs i x e h p = let next : suc i ≡ i + 1 = omega arith in subst (λ n. AllByRecursion P (take n xs)) next (all-suc P xs i x e h p)
 
-pub all-end : {X : Type 0} (P : X → Type 0) (xs : List X) (i : ℕ) → slice_get xs i ≡ None → AllByRecursion P (take i xs) → AllByRecursion P xs
+pub all-end : {X : Type 0} (P : X → Type 0) (xs : List X) (i : ℕ) → slice_get xs i ≡ None → AllByRecursion P (take i xs)
+    → AllByRecursion P xs
 all-end P [] i e h = tt
 all-end P (y ∷ ys) zero e h = absurd (let q : ⊥ = cc in q)
 all-end P (y ∷ ys) (suc i) e h = (h.0, all-end P ys i e h.1)
@@ -81,7 +87,8 @@ small c d v m = let last = m.last in let few = v.few_modules in omega arith
 pub hart-small : (c : Core) (h : ℕ) → IsValid c → h < length c.harts → (hart_at c h).domain < 64
 hart-small c h v l = small c (hart_at c h).domain v (v.harts h l).domain
 
-pub frame-small : (c : Core) (h i : ℕ) (f : Frame) → IsValid c → h < length c.harts → slice_get (hart_at c h).frames i ≡ Some f → f.caller < 64
+pub frame-small : (c : Core) (h i : ℕ) (f : Frame) → IsValid c → h < length c.harts → slice_get (hart_at c h).frames i ≡ Some f
+    → f.caller < 64
 frame-small c h i f v l e = small c f.caller v (all-got (IsFrame (length c.modules)) (hart_at c h).frames i f e (v.harts h l).frames).caller
 
 pub gate-small : (c : Core) (i : ℕ) (g : Gate) → IsValid c → slice_get c.gates i ≡ Some g → g.target < 64
@@ -110,10 +117,12 @@ pub record Pass (c : Core) (i : ℕ) (before marks : List Bool) (more : Bool) : 
   pub kept : KeepMarks before marks
   pub fewer : unmarked marks ≤ unmarked before
   pub some : more ≡ true → unmarked marks < unmarked before
-  pub all : more ≡ false → AllByRecursion (λ (g : Gate). IsTrue (is_marked marks g.domain) → IsTrue (is_marked marks g.target)) (take i c.gates)
+  pub all : more ≡ false → AllByRecursion (λ (g : Gate). IsTrue (is_marked marks g.domain)
+      → IsTrue (is_marked marks g.target)) (take i c.gates)
 
 -- the gate at the place leads on
-pub pass-mark : (c : Core) (i : ℕ) (before marks : List Bool) (m : Bool) (g : Gate) → IsValid c → Pass c i before marks m → slice_get c.gates i ≡ Some g →
+pub pass-mark : (c : Core) (i : ℕ) (before marks : List Bool) (m : Bool) (g : Gate) → IsValid c → Pass c i before marks m
+    → slice_get c.gates i ≡ Some g →
     IsTrue (is_marked marks g.domain) → is_marked marks g.target ≡ false → Pass c (i + 1) before (set marks g.target true) true
 pass-mark c i before marks m g v p e d t =
     let inside = slice_get_within c.gates i g e in
@@ -132,7 +141,8 @@ pass-mark c i before marks m g v p e d t =
     }
 
 -- it doesn't, or its target is marked already
-pub pass-skip : (c : Core) (i : ℕ) (before marks : List Bool) (m : Bool) (g : Gate) → Pass c i before marks m → slice_get c.gates i ≡ Some g →
+pub pass-skip : (c : Core) (i : ℕ) (before marks : List Bool) (m : Bool) (g : Gate) → Pass c i before marks m
+    → slice_get c.gates i ≡ Some g →
     (IsTrue (is_marked marks g.domain) → IsTrue (is_marked marks g.target)) → Pass c (i + 1) before marks m
 pass-skip c i before marks m g p e t =
     let inside = slice_get_within c.gates i g e in
@@ -154,7 +164,8 @@ all-placed P (x ∷ xs) d h = (h zero (omega arith), all-placed P xs d (λ i l. 
 pub hart-kept : (marks more : List Bool) (hart : Hart) → KeepMarks marks more → MarkHart marks hart → MarkHart more hart
 hart-kept marks more hart k h = record {
   domain = k hart.domain h.domain;
-  frames = all-weaker (λ (f : Frame). IsTrue (is_marked marks f.caller)) (λ (f : Frame). IsTrue (is_marked more f.caller)) hart.frames (λ f p. k f.caller p) h.frames;
+  frames = all-weaker (λ (f : Frame). IsTrue (is_marked marks f.caller)) (λ (f : Frame). IsTrue (is_marked more f.caller)) hart.frames
+      (λ f p. k f.caller p) h.frames;
 }
 
 -- with harts and targets marked just the live domains are

@@ -1,5 +1,6 @@
 -- The report of what an audit found is that of the flat state.
-use Rattle.std.proofs.Common.{◌≡◌, ℕ, zero, suc, ◌+◌, ◌-◌, Bool, true, false, List, [], ◌++◌, flat_map, length, slice_index_or, refl, sym, ap, ◌∙◌}
+use Rattle.std.proofs.Common.{◌≡◌, ℕ, zero, suc, ◌+◌, ◌-◌, Bool, true, false, List, [], ◌++◌, flat_map, length, slice_index_or, refl, sym}
+use Rattle.std.proofs.Common.{ap, ◌∙◌}
 use Rattle.std.specs.List.{range_with_len}
 use Rattle.std.proofs.lemmas.Bool.{false_from_ne_true, both_ways}
 use Rattle.mx_words.specs.declared.perm.Span.{Span}
@@ -18,14 +19,16 @@ lines-alike : (names : List (List ℕ)) (f g : ℕ → Bool) → ((d : ℕ) → 
     ≡ flat_map (λ d. live_text d (slice_index_or names (d - 1) []) (g d)) (range_with_len a n)
 lines-alike names f g h a zero = refl
 lines-alike names f g h a (suc n) =
-    ap (λ b. live_text a (slice_index_or names (a - 1) []) b ++ flat_map (λ d. live_text d (slice_index_or names (d - 1) []) (f d)) (range_with_len (a + 1) n)) (h a)
+    ap (λ b. live_text a (slice_index_or names (a - 1) []) b ++ flat_map (λ d. live_text d (slice_index_or names (d - 1) []) (f d))
+    (range_with_len (a + 1) n)) (h a)
     ∙ ap (λ text. live_text a (slice_index_or names (a - 1) []) (g a) ++ text) (lines-alike names f g h (a + 1) n)
 
 live-alike : (names : List (List ℕ)) (f g : ℕ → Bool) → ((d : ℕ) → f d ≡ g d) → live_lines names f ≡ live_lines names g
 unfolding live_lines
 live-alike names f g h = lines-alike names f g h 1 (length names)
 
-report-alike : (names : List (List ℕ)) (f g : ℕ → Bool) (runs : List Span) → live_lines names f ≡ live_lines names g → report names f runs ≡ report names g runs
+report-alike : (names : List (List ℕ)) (f g : ℕ → Bool) (runs : List Span) → live_lines names f ≡ live_lines names g
+    → report names f runs ≡ report names g runs
 unfolding report
 report-alike names f g runs e = rw e refl
 
@@ -40,5 +43,6 @@ marks-alike c marks p d = by (is_marked marks d) refl
 pub found_is_told : (f : Flat) (a : Audit) (names : List (List ℕ)) → MarkLive f.core a.live → a.sealed ≡ sealed_runs (flat_reads f) f.core →
     found_text names a ≡ audit_text names f
 found_is_told f a names p e =
-    report-alike names (is_marked a.live) (is_live f.core) a.sealed (live-alike names (is_marked a.live) (is_live f.core) (marks-alike f.core a.live p))
+    report-alike names (is_marked a.live) (is_live f.core) a.sealed
+    (live-alike names (is_marked a.live) (is_live f.core) (marks-alike f.core a.live p))
     ∙ ap (report names (is_live f.core)) e

@@ -35,7 +35,8 @@ boots-audited plan images inputs s b = record {
   heaps = boots_own plan images inputs s b.range b.boots;
 }
 
-pub boots-live : (plan : Said) (images inputs : List (List ℕ)) (s : State) → IsBoot plan images inputs s → (p : Schedule) (n d : ℕ) → IsLive (run p n s).core d → IsLive s.core d
+pub boots-live : (plan : Said) (images inputs : List (List ℕ)) (s : State) → IsBoot plan images inputs s → (p : Schedule) (n d : ℕ)
+    → IsLive (run p n s).core d → IsLive s.core d
 boots-live plan images inputs s b p n d l = live-run p n s d (boots-audited plan images inputs s b) l
 
 pub boots-keep : (plan : Said) (images inputs : List (List ℕ)) (s : State) → IsBoot plan images inputs s → (p : Schedule) (n word : ℕ) →

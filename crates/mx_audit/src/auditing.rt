@@ -15,11 +15,14 @@ use mx_any::{AnyMachine, any_machine_is_valid};
 use mx_words::NoMemory;
 use std::alloc::Global;
 
-/// Finds the live domains of a machine and the maximal runs of its sealed words. It looks at each gate at most once more than there
-/// are domains that gates lead to, and at each run of one owner and of one permission of a live domain once; never at single words.
+/// Finds the live domains of a machine and the maximal runs of its sealed words. It looks at each gate at most once
+/// more than there
+/// are domains that gates lead to, and at each run of one owner and of one permission of a live domain once; never at
+/// single words.
 /// Memory is taken for the runs found alone.
 ///
-/// What is found stays in every run (`live_never_grows`, `sealed_words_stay`) where each heap area belongs to its module, as in every
+/// What is found stays in every run (`live_never_grows`, `sealed_words_stay`) where each heap area belongs to its
+/// module, as in every
 /// state at boot (`audits_of_boots_stay`).
 pub fn audit(alloc: Global, machine: &AnyMachine) -> Result<Audit, NoMemory>
     ensures live { IfOk result (λ a. (d : ℕ) →

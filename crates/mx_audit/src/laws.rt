@@ -26,7 +26,8 @@ pub fn live_never_grows()
         IsLive (run p n s).core d → IsLive s.core d }
 {}
 
-/// In each run from an audited state, by every schedule, a sealed word keeps its owner, its permission in every domain and its four
+/// In each run from an audited state, by every schedule, a sealed word keeps its owner, its permission in every domain
+/// and its four
 /// bytes, and is sealed still; and the state is audited still.
 pub fn sealed_words_stay()
     ensures owner { (p : Schedule) (n : ℕ) (s : State) (word : ℕ) → IsAudited s → HasSealed s word →
@@ -55,8 +56,10 @@ pub fn runs_of_sealed_words()
         IsTrue (lies_in (sealed_runs (flat_reads (flat s)) s.core) word) ↔ HasSealed s word }
 {}
 
-/// The state at boot of each plan in range, of images and of inputs that are bytes is audited. So what its audit finds stays in every run by every
-/// schedule: only the live domains are ever live, and each word of the runs found keeps its owner, its permission in every domain and
+/// The state at boot of each plan in range, of images and of inputs that are bytes is audited. So what its audit finds
+/// stays in every run by every
+/// schedule: only the live domains are ever live, and each word of the runs found keeps its owner, its permission in
+/// every domain and
 /// its four bytes.
 pub fn audits_of_boots_stay()
     ensures audited { (plan : Said) (images inputs : List (List ℕ)) (s : State) →

@@ -14,8 +14,10 @@ use mx_io::{Failed, Piece, Sink};
 use mx_tail::{Tail, put_pieces};
 use mx_words::{MOST_DOMAINS, RAM_BASE, Span, Spans};
 
-/// Puts the report of an audit: a line for each live domain, by number, with its module's name; one for each run of sealed words, by
-/// address, with its first address and the address after it; and how many words are sealed. The names are those of the modules in
+/// Puts the report of an audit: a line for each live domain, by number, with its module's name; one for each run of
+/// sealed words, by
+/// address, with its first address and the address after it; and how many words are sealed. The names are those of the
+/// modules in
 /// order, and the runs lie in RAM. Where a write fails, a prefix of the report was appended.
 pub fn write_audit<R: Sink>(sink: &mut R, audit: &Audit, names: &[&str]) -> Result<(), Failed>
     requires { AreInRam audit.now.sealed }

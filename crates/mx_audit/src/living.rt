@@ -5,12 +5,14 @@ ghost use Rattle.std.specs.Prelude.{◌≡◌, ◌<◌, true, length, slice_set}
 ghost use Rattle.mx_words.specs.Limits.{most_domains};
 ghost use Rattle.mx_model.specs.State.{hart_at};
 ghost use Rattle.mx_any.specs.Machines.{meaning};
-ghost use Rattle.mx_audit.specs.Marks.{KeepMarks, MarkHart, MarkHarts, MarkLive, MarkOnlyLive, MarkTargets, is_marked, unmarked};
+ghost use Rattle.mx_audit.specs.Marks.{KeepMarks, MarkHart, MarkHarts, MarkLive, MarkOnlyLive, MarkTargets, is_marked};
+ghost use Rattle.mx_audit.specs.Marks.{unmarked};
 
 use mx_any::{AnyMachine, any_machine_is_valid};
 use mx_words::MOST_DOMAINS;
 
-/// Marks the live domains: those of the harts and of the callers of their frames, and then targets of gates until a pass over the gates
+/// Marks the live domains: those of the harts and of the callers of their frames, and then targets of gates until a
+/// pass over the gates
 /// marks none. Each pass but the last marks a domain.
 pub(crate) fn live_domains(machine: &AnyMachine) -> [bool; MOST_DOMAINS]
     ensures { MarkLive (meaning machine.now).core result }

@@ -12,7 +12,8 @@ use mx_any::{AnyMachine, any_machine_is_valid};
 use mx_words::{MOST_DOMAINS, NoMemory, Perm, Span, Spans};
 use std::alloc::Global;
 
-/// The maximal runs of a machine's sealed words, where just the live domains are marked. It goes from edge to edge of the owners and
+/// The maximal runs of a machine's sealed words, where just the live domains are marked. It goes from edge to edge of
+/// the owners and
 /// of the live domains' rights.
 pub(crate) fn sealed_runs(
     alloc: Global,

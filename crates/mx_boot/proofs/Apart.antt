@@ -1,5 +1,6 @@
 -- Areas of a plan without a fault: they lie in RAM and share no word.
-use Rattle.std.proofs.Common.{◌≡◌, ◌⊎◌, inl, inr, ℕ, zero, suc, ◌+◌, ◌/◌, ◌≤◌, true, false, not, List, [], ◌∷◌, ◌++◌, length, find, slice_get, Option, Some, None, refl, ◌∙◌, sym, arith}
+use Rattle.std.proofs.Common.{◌≡◌, ◌⊎◌, inl, inr, ℕ, zero, suc, ◌+◌, ◌/◌, ◌≤◌, true, false, not, List, [], ◌∷◌, ◌++◌, length, find}
+use Rattle.std.proofs.Common.{slice_get, Option, Some, None, refl, ◌∙◌, sym, arith}
 use Rattle.std.specs.List.{AllByRecursion}
 use Rattle.std.specs.Option.{is_some}
 use Rattle.std.proofs.lemmas.Bool.Decides.{nat_tests}
@@ -80,7 +81,8 @@ apart_at words earlier (a ∷ rest) h zero b at =
     let later = apart_from words (earlier ++ a ∷ []) rest h.1 b (length earlier) (get_last earlier a ∙ at) in
     (inr same, all-weaker (λ c. shares_word c b ≡ false) (λ c. (shares_word c b ≡ false) ⊎ (c ≡ b)) rest (λ c e. inl e) later)
 apart_at words earlier (a ∷ rest) h (suc i) b at =
-    let before : shares_word b a ≡ false = all_at (λ c. shares_word c a ≡ false) rest i b (apart_from words (earlier ++ a ∷ []) rest h.1 a (length earlier) (get_last earlier a)) at in
+    let before : shares_word b a ≡ false = all_at (λ c. shares_word c a ≡ false) rest i b
+    (apart_from words (earlier ++ a ∷ []) rest h.1 a (length earlier) (get_last earlier a)) at in
     (inl (shares_both a b ∙ before), apart_at words (earlier ++ a ∷ []) rest h.1 i b at)
 
 -- what an area in RAM covers there

@@ -14,12 +14,16 @@ behind-append keep rows earlier [] ys = ap (λ e. each_behind keep rows e ys) (s
 behind-append keep rows earlier (x ∷ xs) ys =
     let first = rows earlier x in
     ap (λ rs. first ++ rs) (behind-append keep rows (earlier ++ keep x ∷ []) xs ys)
-    ∙ ap (λ e. first ++ (each_behind keep rows (earlier ++ keep x ∷ []) xs ++ each_behind keep rows e ys)) (append_assoc earlier (keep x ∷ []) (map keep xs))
-    ∙ sym (append_assoc first (each_behind keep rows (earlier ++ keep x ∷ []) xs) (each_behind keep rows (earlier ++ keep x ∷ map keep xs) ys))
+    ∙ ap (λ e. first ++ (each_behind keep rows (earlier ++ keep x ∷ []) xs ++ each_behind keep rows e ys))
+    (append_assoc earlier (keep x ∷ []) (map keep xs))
+    ∙ sym (append_assoc first (each_behind keep rows (earlier ++ keep x ∷ []) xs)
+    (each_behind keep rows (earlier ++ keep x ∷ map keep xs) ys))
 
 pub first_behind : {A B : Type 0} (keep : A → B) (rows : List B → A → List Fault) (earlier : List B) (xs ys : List A)
-    → first_row (each_behind keep rows earlier (xs ++ ys)) ≡ option_or (first_row (each_behind keep rows earlier xs)) (first_row (each_behind keep rows (earlier ++ map keep xs) ys))
-first_behind keep rows earlier xs ys = ap first_row (behind-append keep rows earlier xs ys) ∙ first_row-append (each_behind keep rows earlier xs) _
+    → first_row (each_behind keep rows earlier (xs ++ ys)) ≡ option_or (first_row (each_behind keep rows earlier xs))
+    (first_row (each_behind keep rows (earlier ++ map keep xs) ys))
+first_behind keep rows earlier xs ys = ap first_row (behind-append keep rows earlier xs ys)
+    ∙ first_row-append (each_behind keep rows earlier xs) _
 
 -- areas from a place on, after those before it
 abbrev pub areas_from : ℕ → ℕ → List Area → Option BootFault

@@ -1,5 +1,6 @@
 -- States at boot are valid.
-use Rattle.std.proofs.Common.{◌≡◌, ℕ, zero, suc, ◌<◌, ◌≤◌, Bool, cond, List, [], length, get_or, replicate, Option, Some, None, Result, Ok, Err, refl, ◌∙◌, sym, subst, arith, inl, inr}
+use Rattle.std.proofs.Common.{◌≡◌, ℕ, zero, suc, ◌<◌, ◌≤◌, Bool, cond, List, [], length, get_or, replicate, Option, Some, None, Result, Ok}
+use Rattle.std.proofs.Common.{Err, refl, ◌∙◌, sym, subst, arith, inl, inr}
 use Rattle.std.specs.List.{AllByRecursion, enumerate_from}
 use Rattle.std.proofs.lemmas.Bool.{cases_lt}
 use Rattle.std.proofs.lemmas.List.{length-map, length-replicate, get_or_past}
@@ -45,7 +46,8 @@ ok_unless : (s t : State) (o : Option BootFault) → unless o (limited t) ≡ Ok
 ok_unless s t (Some fault) e = absurd cc
 ok_unless s t None e = (refl, ok_limited s t (within (map_need t) t.core.limit) (TooFull (map_need t) t.core.limit) e)
 
-pub booted : (plan : Said) (images inputs : List (List ℕ)) (s : State) → boot_of plan images inputs ≡ Ok s → (first_fault plan images ≡ None) × (boot_state plan images inputs ≡ s)
+pub booted : (plan : Said) (images inputs : List (List ℕ)) (s : State) → boot_of plan images inputs ≡ Ok s
+    → (first_fault plan images ≡ None) × (boot_state plan images inputs ≡ s)
 unfolding boot_of
 booted plan images inputs s e = ok_unless s (boot_state plan images inputs) (first_fault plan images) e
 
@@ -87,8 +89,10 @@ module _ (plan : Said) (images inputs : List (List ℕ)) (in_range : IsInRange p
   harts_valid : (h : ℕ) → h < length core.harts → IsHart (length core.modules) (length core.harts) h (hart_at core h)
   harts_valid h lt =
       let found = there plan.harts h (omega (arith, lt, length-harts)) in
-      let at = at_mapped (hart_at_boot plan images) (enumerate_from 0 plan.harts) h (h, found.0) (at_counted plan.harts h found.0 found.1) in
-      let same : hart_at core h ≡ hart_at_boot plan images (h, found.0) = get_or_from_slice_get core.harts h (hart_at_boot plan images (h, found.0)) no_hart at in
+      let at = at_mapped (hart_at_boot plan images) (enumerate_from 0 plan.harts) h (h, found.0) (at_counted plan.harts h found.0 found.1)
+      in
+      let same : hart_at core h ≡ hart_at_boot plan images (h, found.0) =
+      get_or_from_slice_get core.harts h (hart_at_boot plan images (h, found.0)) no_hart at in
       let valid = hart_valid plan images (ram_words plan) h found.0 in_range few_words inside clear.started found.1 in
       let one = subst (λ n. IsHart n (length plan.harts) h (hart_at_boot plan images (h, found.0))) (sym length-modules) valid in
       let two = subst (λ n. IsHart (length core.modules) n h (hart_at_boot plan images (h, found.0))) (sym length-harts) one in
@@ -132,7 +136,8 @@ module _ (plan : Said) (images inputs : List (List ℕ)) (in_range : IsInRange p
       let few = few_gives_all plan images in
       record {
         valid = core_valid are given;
-        maps = length-map s.grants (λ grants. map_of grants (ram_words plan)) ∙ length-map (homes plan images) (grants_of harts) ∙ length-homes plan images ∙ sym length-modules;
+        maps = length-map s.grants (λ grants. map_of grants (ram_words plan)) ∙ length-map (homes plan images) (grants_of harts)
+            ∙ length-homes plan images ∙ sym length-modules;
         whole_maps = search (arith, all_mapped, all_each, length-map_of);
         owners = length-owners s.gives (ram_words plan);
         small_owners = owner_small;
@@ -143,7 +148,8 @@ module _ (plan : Said) (images inputs : List (List ℕ)) (in_range : IsInRange p
   pub heaps_owned : OwnHeaps (reads (boot_state plan images inputs)) core
   heaps_owned d word is over = heaps_own plan images (ram_words plan) clear.placed d word is over
 
-pub boots_valid : (plan : Said) (images inputs : List (List ℕ)) (s : State) → IsInRange plan → AreBytes images → AreBytes inputs → boot_of plan images inputs ≡ Ok s → IsFlat (flat s)
+pub boots_valid : (plan : Said) (images inputs : List (List ℕ)) (s : State) → IsInRange plan → AreBytes images → AreBytes inputs
+    → boot_of plan images inputs ≡ Ok s → IsFlat (flat s)
 boots_valid plan images inputs s in_range are given e =
     let b = booted plan images inputs s e in
     subst (λ (t : State). IsFlat (flat t)) b.1 (flat_valid plan images inputs in_range (faultless plan images b.0) are given)
@@ -159,7 +165,8 @@ pub boots_list : (plan : Said) (images inputs : List (List ℕ)) (s : State) →
 boots_list plan images inputs s e =
     subst (λ (t : State). length t.grants ≡ length t.core.modules) (booted plan images inputs s e).1 (lists_are plan images inputs)
 
-pub boots_own : (plan : Said) (images inputs : List (List ℕ)) (s : State) → IsInRange plan → boot_of plan images inputs ≡ Ok s → OwnHeaps (reads s) s.core
+pub boots_own : (plan : Said) (images inputs : List (List ℕ)) (s : State) → IsInRange plan → boot_of plan images inputs ≡ Ok s
+    → OwnHeaps (reads s) s.core
 boots_own plan images inputs s in_range e =
     let b = booted plan images inputs s e in
     subst (λ (t : State). OwnHeaps (reads t) t.core) b.1 (heaps_owned plan images inputs in_range (faultless plan images b.0))

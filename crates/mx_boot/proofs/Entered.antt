@@ -20,7 +20,8 @@ pub record IsInside (words address : ℕ) : Type 0 where
   pub from : 2147483648 ≤ address
   pub to : word_at address < words
 
-pub entry_inside : (words : ℕ) (all : List Area) (domain address : ℕ) → AllByRecursion (λ a. is_in_ram words a ≡ true) all → is_entry all domain address ≡ true → IsInside words address
+pub entry_inside : (words : ℕ) (all : List Area) (domain address : ℕ) → AllByRecursion (λ a. is_in_ram words a ≡ true) all
+    → is_entry all domain address ≡ true → IsInside words address
 entry_inside words all domain address inside h =
     let parts = and_parts (address % 4 == 0) (list_any (holds_entry domain address) all) h in
     let found = any_some (holds_entry domain address) all parts.1 in
@@ -39,10 +40,12 @@ entry_inside words all domain address inside h =
     covered : (first count w : ℕ) → covers first count w ≡ true → (first ≤ w) × (w < first + count)
     covered first count w h = (grind (arith, nat_tests), grind (arith, nat_tests))
 
-    low : (first count x w : ℕ) → 2147483648 ≤ first → first / 4 + count ≤ 536870912 + w → covers (first / 4) count (x / 4) ≡ true → 2147483648 ≤ x
+    low : (first count x w : ℕ) → 2147483648 ≤ first → first / 4 + count ≤ 536870912 + w → covers (first / 4) count (x / 4) ≡ true
+        → 2147483648 ≤ x
     low first count x w a b c = let p = covered (first / 4) count (x / 4) c in let q = p.0 in omega (arith, a, q)
 
-    high : (first count x w : ℕ) → 2147483648 ≤ first → first / 4 + count ≤ 536870912 + w → covers (first / 4) count (x / 4) ≡ true → word_at x < w
+    high : (first count x w : ℕ) → 2147483648 ≤ first → first / 4 + count ≤ 536870912 + w → covers (first / 4) count (x / 4) ≡ true
+        → word_at x < w
     high first count x w a b c = let p = covered (first / 4) count (x / 4) c in let q = p.0 in let r = p.1 in omega (arith, a, b, q, r)
 
 -- an entry without a fault
@@ -50,7 +53,8 @@ pub record IsEntered (all : List Area) (domain : ℕ) (address : Option ℕ) : T
   pub there : is_some address ≡ true
   pub entry : is_entry all domain (unwrap_or address 0) ≡ true
 
-pub entry_clear : (all : List Area) (place : Place) (domain : ℕ) (address : Option ℕ) → first_row (entry_rows all place domain address) ≡ None → IsEntered all domain address
+pub entry_clear : (all : List Area) (place : Place) (domain : ℕ) (address : Option ℕ)
+    → first_row (entry_rows all place domain address) ≡ None → IsEntered all domain address
 entry_clear all place domain address h =
     let first = row_none (not (is_some address)) _ _ h in
     let second = row_none (not (is_entry all domain (unwrap_or address 0))) _ _ first.1 in

@@ -1,5 +1,6 @@
 -- Each give adds at most two runs of owners: a run begins only where one begins or ends.
-use Rattle.std.proofs.Common.{◌≡◌, ℕ, zero, suc, ◌+◌, ◌-◌, ◌*◌, ◌<◌, ◌≤◌, Bool, true, false, not, cond, ◌==◌, ◌||◌, List, [], ◌∷◌, length, get_or, refl, ap, ◌∙◌, sym, arith}
+use Rattle.std.proofs.Common.{◌≡◌, ℕ, zero, suc, ◌+◌, ◌-◌, ◌*◌, ◌<◌, ◌≤◌, Bool, true, false, not, cond, ◌==◌, ◌||◌, List, [], ◌∷◌, length}
+use Rattle.std.proofs.Common.{get_or, refl, ap, ◌∙◌, sym, arith}
 use Rattle.std.specs.List.{flat_map, list_any}
 use Rattle.std.proofs.lemmas.Bool.{eq-eqb, ne_eqb, or_from, or_parts, or_right}
 use Rattle.std.proofs.lemmas.Bool.Decides.{nat_tests}
@@ -41,17 +42,20 @@ count-any n (b ∷ bs) =
 abbrev bounds : Give → List ℕ
 bounds g = g.first ∷ (g.first + g.count) ∷ []
 
-covers-next : (first count j : ℕ) → (first == suc j) ≡ false → (first + count == suc j) ≡ false → covers first count j ≡ covers first count (suc j)
+covers-next : (first count j : ℕ) → (first == suc j) ≡ false → (first + count == suc j) ≡ false
+    → covers first count j ≡ covers first count (suc j)
 covers-next first count j a b = grind (arith, nat_tests)
 
 -- no give of these begins or ends at a word, so they give it and the word before to the same owner
-newest-next : (d e : ℕ) (gives : List Give) (j : ℕ) → d ≡ e → list_any (λ b. b == suc j) (flat_map bounds gives) ≡ false → newest d gives j ≡ newest e gives (suc j)
+newest-next : (d e : ℕ) (gives : List Give) (j : ℕ) → d ≡ e → list_any (λ b. b == suc j) (flat_map bounds gives) ≡ false
+    → newest d gives j ≡ newest e gives (suc j)
 newest-next d e [] j same none = same
 newest-next d e (g ∷ gives) j same none =
     let first = or_parts (g.first == suc j) ((g.first + g.count == suc j) || list_any (λ b. b == suc j) (flat_map bounds gives)) none in
     let second = or_parts (g.first + g.count == suc j) (list_any (λ b. b == suc j) (flat_map bounds gives)) first.1 in
     let over = covers-next g.first g.count j first.0 second.0 in
-    let here : laid_at j d g ≡ laid_at (suc j) e g = ap (λ t. cond t g.value d) over ∙ ap (λ x. cond (covers g.first g.count (suc j)) g.value x) same in
+    let here : laid_at j d g ≡ laid_at (suc j) e g = ap (λ t. cond t g.value d) over
+    ∙ ap (λ x. cond (covers g.first g.count (suc j)) g.value x) same in
     newest-next (laid_at j d g) (laid_at (suc j) e g) gives j here second.1
 
 -- whether a run may begin at a word
@@ -61,12 +65,14 @@ may-begin gives i = (0 == i) || list_any (λ b. b == i) (flat_map bounds gives)
 starts : (gives : List Give) (words i : ℕ) → i < words → is_owner_start (owners gives words) i ≡ true → may-begin gives i ≡ true
 starts gives words zero lt h = refl
 starts gives words (suc j) lt h =
-    elim (list_any (λ b. b == suc j) (flat_map bounds gives)) as (λ t. list_any (λ b. b == suc j) (flat_map bounds gives) ≡ t → ((0 == suc j) || t) ≡ true) [
+    elim (list_any (λ b. b == suc j) (flat_map bounds gives)) as (λ t. list_any (λ b. b == suc j) (flat_map bounds gives) ≡ t
+    → ((0 == suc j) || t) ≡ true) [
       | true ↦ λ e. or_right (0 == suc j) true refl
       | false ↦ λ e.
           let before : get_or (owners gives words) j 0 ≡ owner gives j = owners-at gives words j 0 (omega arith) in
           let here : get_or (owners gives words) (suc j) 0 ≡ owner gives (suc j) = owners-at gives words (suc j) 0 lt in
-          let same : get_or (owners gives words) j 0 ≡ get_or (owners gives words) (suc j) 0 = before ∙ newest-next 0 0 gives j refl e ∙ sym here in
+          let same : get_or (owners gives words) j 0 ≡ get_or (owners gives words) (suc j) 0 = before ∙ newest-next 0 0 gives j refl e
+          ∙ sym here in
           absurd (differs j (owners gives words) same h)
     ] refl
   where
@@ -75,17 +81,20 @@ starts gives words (suc j) lt h =
         let one : suc j - 1 ≡ j = omega arith in
         let at : (get_or os (suc j - 1) 0 == get_or os (suc j) 0) ≡ true = eq-eqb _ _ (ap (λ k. get_or os k 0) one ∙ same) in
         let later : (suc j == 0) ≡ false = grind (arith, nat_tests) in
-        let not_here : is_owner_start os (suc j) ≡ false = ap (λ t. t || not (get_or os (suc j - 1) 0 == get_or os (suc j) 0)) later ∙ ap not at in
+        let not_here : is_owner_start os (suc j) ≡ false = ap (λ t. t || not (get_or os (suc j - 1) 0 == get_or os (suc j) 0)) later
+        ∙ ap not at in
         cc
 
 pub runs-at-most : (gives : List Give) (words : ℕ) → owner_runs (owners gives words) ≤ 1 + 2 * length gives
 runs-at-most gives words =
     let counted = owner_runs-count (owners gives words) in
     let long = length-owners gives words in
-    let at_most : count_below words (is_owner_start (owners gives words)) ≤ count_below words (may-begin gives) = count-mono words (is_owner_start (owners gives words)) (may-begin gives) (starts gives words) in
+    let at_most : count_below words (is_owner_start (owners gives words)) ≤ count_below words (may-begin gives) =
+    count-mono words (is_owner_start (owners gives words)) (may-begin gives) (starts gives words) in
     let more : count_below words (may-begin gives) ≤ count_below words (λ i. list_any (λ b. b == i) (flat_map bounds gives)) + 1 =
     count-more words 0 (λ i. list_any (λ b. b == i) (flat_map bounds gives)) in
     let rest = count-any words (flat_map bounds gives) in
     let few = length-flat_at_most bounds 2 gives (all_each (λ g. length (bounds g) ≤ 2) gives (λ g. omega arith)) in
-    let same : count_below (length (owners gives words)) (is_owner_start (owners gives words)) ≡ count_below words (is_owner_start (owners gives words)) = ap (λ n. count_below n (is_owner_start (owners gives words))) long in
+    let same : count_below (length (owners gives words)) (is_owner_start (owners gives words))
+    ≡ count_below words (is_owner_start (owners gives words)) = ap (λ n. count_below n (is_owner_start (owners gives words))) long in
     omega (arith, counted, same, at_most, more, rest, few)

@@ -18,35 +18,43 @@ use Rattle.mx_boot.specs.Joined.{boot_maps}
 use Rattle.mx_boot.proofs.Homes.{length-homes}
 
 module _ (plan : Said) (images inputs : List (List ℕ)) (none : first_fault plan images ≡ None) where
-  pub boot-fits : within (need plan.tables (boot_maps plan images)) (limit_of plan) ≡ true → boot_of plan images inputs ≡ Ok (boot_state plan images inputs)
+  pub boot-fits : within (need plan.tables (boot_maps plan images)) (limit_of plan) ≡ true
+      → boot_of plan images inputs ≡ Ok (boot_state plan images inputs)
   unfolding boot_of
   boot-fits fit =
       ap (λ o. unless o (limited (boot_state plan images inputs))) none
       ∙ ap (λ b. cond b (Ok (boot_state plan images inputs)) (Err (TooFull (map_need (boot_state plan images inputs)) (limit_of plan)))) fit
 
-  pub boot-full : within (need plan.tables (boot_maps plan images)) (limit_of plan) ≡ false → boot_of plan images inputs ≡ Err (TooFull (need plan.tables (boot_maps plan images)) (limit_of plan))
+  pub boot-full : within (need plan.tables (boot_maps plan images)) (limit_of plan) ≡ false
+      → boot_of plan images inputs ≡ Err (TooFull (need plan.tables (boot_maps plan images)) (limit_of plan))
   unfolding boot_of
   boot-full full =
       ap (λ o. unless o (limited (boot_state plan images inputs))) none
-      ∙ ap (λ b. cond b (Ok (boot_state plan images inputs)) (Err (TooFull (map_need (boot_state plan images inputs)) (limit_of plan)))) full
+      ∙ ap (λ b. cond b (Ok (boot_state plan images inputs)) (Err (TooFull (map_need (boot_state plan images inputs)) (limit_of plan))))
+      full
 
 -- there is a row for each module
-pub length-rows : (plan : Said) (images : List (List ℕ)) (rows : List (List Span)) → map (row_map (ram_words plan)) rows ≡ boot_maps plan images → length rows ≡ length plan.modules
+pub length-rows : (plan : Said) (images : List (List ℕ)) (rows : List (List Span))
+    → map (row_map (ram_words plan)) rows ≡ boot_maps plan images → length rows ≡ length plan.modules
 length-rows plan images rows same =
     sym (length-map rows (row_map (ram_words plan))) ∙ ap length same
     ∙ length-map (boot_grants plan images) (λ grants. map_of grants (ram_words plan))
     ∙ length-map (homes plan images) (grants_of (length plan.harts)) ∙ length-homes plan images
 
 -- whether maps fit
-pub fits-are : (plan : Said) (images : List (List ℕ)) (kind : Kind) (limit : Need) (maps : List (List Perm)) → kind ≡ plan.tables → limit ≡ limit_of plan → maps ≡ boot_maps plan images
+pub fits-are : (plan : Said) (images : List (List ℕ)) (kind : Kind) (limit : Need) (maps : List (List Perm)) → kind ≡ plan.tables
+    → limit ≡ limit_of plan → maps ≡ boot_maps plan images
     → within (need kind maps) limit ≡ within (need plan.tables (boot_maps plan images)) (limit_of plan)
 fits-are plan images kind limit maps a b c =
-    ap (λ k. within (need k maps) limit) a ∙ ap (λ ms. within (need plan.tables ms) limit) c ∙ ap (within (need plan.tables (boot_maps plan images))) b
+    ap (λ k. within (need k maps) limit) a ∙ ap (λ ms. within (need plan.tables ms) limit) c
+    ∙ ap (within (need plan.tables (boot_maps plan images))) b
 
-pub need-is : (plan : Said) (images : List (List ℕ)) (kind : Kind) (maps : List (List Perm)) → kind ≡ plan.tables → maps ≡ boot_maps plan images → need kind maps ≡ need plan.tables (boot_maps plan images)
+pub need-is : (plan : Said) (images : List (List ℕ)) (kind : Kind) (maps : List (List Perm)) → kind ≡ plan.tables
+    → maps ≡ boot_maps plan images → need kind maps ≡ need plan.tables (boot_maps plan images)
 need-is plan images kind maps a c = ap (λ k. need k maps) a ∙ ap (need plan.tables) c
 
 -- a plan with a fault doesn't boot
-pub boot-faulty : (plan : Said) (images inputs : List (List ℕ)) (fault : BootFault) → first_fault plan images ≡ Some fault → boot_of plan images inputs ≡ Err (Faulty fault)
+pub boot-faulty : (plan : Said) (images inputs : List (List ℕ)) (fault : BootFault) → first_fault plan images ≡ Some fault
+    → boot_of plan images inputs ≡ Err (Faulty fault)
 unfolding boot_of
 boot-faulty plan images inputs fault e = ap (λ o. unless o (limited (boot_state plan images inputs))) e

@@ -1,5 +1,6 @@
 -- Gates of a plan without a fault.
-use Rattle.std.proofs.Common.{◌≡◌, ℕ, ◌+◌, ◌<◌, ◌≤◌, true, false, ◌==◌, ◌&&◌, List, [], ◌∷◌, ◌++◌, length, map, None, unwrap_or, refl, ◌∙◌, sym, subst, arith, append_assoc}
+use Rattle.std.proofs.Common.{◌≡◌, ℕ, ◌+◌, ◌<◌, ◌≤◌, true, false, ◌==◌, ◌&&◌, List, [], ◌∷◌, ◌++◌, length, map, None, unwrap_or, refl, ◌∙◌}
+use Rattle.std.proofs.Common.{sym, subst, arith, append_assoc}
 use Rattle.std.specs.List.{AllByRecursion, enumerate_from}
 use Rattle.std.proofs.lemmas.Bool.Decides.{nat_tests}
 use Rattle.std.proofs.lemmas.List.{length-append, append-nil}
@@ -51,7 +52,8 @@ abbrev pub AreClear : List Area → List Gate → List Request → Type 0
 AreClear all earlier [] = Unit {0}
 AreClear all earlier (r ∷ rest) = IsClear all earlier r × AreClear all (earlier ++ r.gate ∷ []) rest
 
-pub gates_clear : (all : List Area) (earlier : List Gate) (rs : List Request) → first_row (gates_rows all earlier rs) ≡ None → AreClear all earlier rs
+pub gates_clear : (all : List Area) (earlier : List Gate) (rs : List Request) → first_row (gates_rows all earlier rs) ≡ None
+    → AreClear all earlier rs
 gates_clear all earlier [] h = tt
 gates_clear all earlier (r ∷ rest) h =
     let both = neither (first_row (gate_rows all earlier r)) (first_row (gates_rows all (earlier ++ r.gate ∷ []) rest))
@@ -59,7 +61,8 @@ gates_clear all earlier (r ∷ rest) h =
     (gate_clear all earlier r both.0, gates_clear all (earlier ++ r.gate ∷ []) rest both.1)
 
 -- there are at most 256
-few_from : (all : List Area) (earlier : List Gate) (rs : List Request) → length earlier ≤ 256 → AreClear all earlier rs → length earlier + length rs ≤ 256
+few_from : (all : List Area) (earlier : List Gate) (rs : List Request) → length earlier ≤ 256 → AreClear all earlier rs
+    → length earlier + length rs ≤ 256
 few_from all earlier [] few h = omega arith
 few_from all earlier (r ∷ rest) few h =
     let room = below (length earlier) few h.0.room in
@@ -77,18 +80,21 @@ few_gates all rs h = let few = few_from all [] rs (omega arith) h in omega (arit
 pub flipped : (d w e v : ℕ) → ((e == d) && (v == w)) ≡ false → ((d == e) && (w == v)) ≡ false
 flipped d w e v h = grind (arith, nat_tests)
 
-single_from : (all : List Area) (earlier : List Gate) (rs : List Request) → AreSingle earlier → AreClear all earlier rs → AreSingle (earlier ++ map gate_of rs)
+single_from : (all : List Area) (earlier : List Gate) (rs : List Request) → AreSingle earlier → AreClear all earlier rs
+    → AreSingle (earlier ++ map gate_of rs)
 single_from all earlier [] single h = subst AreSingle (sym (append-nil earlier)) single
 single_from all earlier (r ∷ rest) single h =
     let others = any_none (is_at r.gate.domain r.gate.word) earlier h.0.fresh in
-    let flip = all-weaker (λ g. is_at r.gate.domain r.gate.word g ≡ false) (λ g. is_at g.domain g.word r.gate ≡ false) earlier (λ g. flipped r.gate.domain r.gate.word g.domain g.word) others in
+    let flip = all-weaker (λ g. is_at r.gate.domain r.gate.word g ≡ false) (λ g. is_at g.domain g.word r.gate ≡ false) earlier (λ g.
+    flipped r.gate.domain r.gate.word g.domain g.word) others in
     let more = single-append r.gate earlier flip single in
     subst AreSingle (append_assoc earlier (r.gate ∷ []) (map gate_of rest)) (single_from all (earlier ++ r.gate ∷ []) rest more h.1)
 
 pub single_gates : (all : List Area) (rs : List Request) → AreClear all [] rs → AreSingle (map gate_of rs)
 single_gates all rs h = single_from all [] rs (λ i j d lt below. absurd (let q : ⊥ = omega (arith, below) in q)) h
 
-all_entered : (all : List Area) (earlier : List Gate) (rs : List Request) → AreClear all earlier rs → AllByRecursion (λ (r : Request). IsEntered all r.gate.target r.address) rs
+all_entered : (all : List Area) (earlier : List Gate) (rs : List Request) → AreClear all earlier rs
+    → AllByRecursion (λ (r : Request). IsEntered all r.gate.target r.address) rs
 all_entered all earlier [] h = tt
 all_entered all earlier (r ∷ rest) h = (h.0.entered, all_entered all (earlier ++ r.gate ∷ []) rest h.1)
 
@@ -105,12 +111,14 @@ module _ (modules : ℕ) (h : Home) (own : IsModule modules h.domain) (in_range 
   calls_asked : (gate : GatePlan) → range.IsGate modules h.domain gate → AllByRecursion (IsAsked modules) (call_requests h gate)
   calls_asked gate g = all_mapped (request h key.Gates gate.entry) (IsAsked modules) gate.from
       (from-each (λ domain. IsAsked modules (request h key.Gates gate.entry domain)) gate.from
-      (λ i domain at. let between = (g.from i domain at).0 in asked key.Gates gate.entry domain (record { first = between.0; last = between.1 })))
+      (λ i domain at. let between = (g.from i domain at).0 in
+      asked key.Gates gate.entry domain (record { first = between.0; last = between.1 })))
 
   pub module_asked : AllByRecursion (IsAsked modules) (requests_of h)
   module_asked = search (arith, all-join, all_flat, from-each, calls_asked, in_range.gates, all_mapped, all_each, asked)
 
-pub requests_asked : (plan : Said) (images : List (List ℕ)) → IsInRange plan → AllByRecursion (IsAsked (length plan.modules)) (requests plan images)
+pub requests_asked : (plan : Said) (images : List (List ℕ)) → IsInRange plan
+    → AllByRecursion (IsAsked (length plan.modules)) (requests plan images)
 requests_asked plan images in_range =
     let count = length plan.modules in
     all_flat requests_of (IsAsked count) (homes plan images)
@@ -118,9 +126,11 @@ requests_asked plan images in_range =
     (all_numbered (λ (p : ℕ × ModulePlan). AllByRecursion (IsAsked count) (requests_of (home images p))) 0 plan.modules
     (λ i m at. let same : 0 + i ≡ i = omega arith in
     subst (λ k. AllByRecursion (IsAsked count) (requests_of (home images (k, m)))) (sym same)
-    (module_asked count (home images (i, m)) (let below = slice_get_within plan.modules i m at in record { first = omega arith; last = omega (arith, below) }) (in_range.modules i m at)))))
+    (module_asked count (home images (i, m)) (let below = slice_get_within plan.modules i m at in
+    record { first = omega arith; last = omega (arith, below) }) (in_range.modules i m at)))))
 
-pub gates_valid : (words modules : ℕ) (all : List Area) (rs : List Request) → AllByRecursion (λ a. is_in_ram words a ≡ true) all → AreClear all [] rs
+pub gates_valid : (words modules : ℕ) (all : List Area) (rs : List Request) → AllByRecursion (λ a. is_in_ram words a ≡ true) all
+    → AreClear all [] rs
     → AllByRecursion (IsAsked modules) rs → AllByRecursion (IsGate modules words) (map gate_of rs)
 gates_valid words modules all rs inside clear asked_all =
     all_mapped gate_of (IsGate modules words) rs

@@ -19,7 +19,8 @@ pub give-next : (words i : ℕ) (areas : List Area) (d : Area) → i < length ar
     → laid (give (get_or areas i d)) (owners (map give (take i areas)) words) ≡ owners (map give (take (i + 1) areas)) words
 give-next words i areas d lt =
     sym (owners-append (map give (take i areas)) (give (get_or areas i d)) words)
-    ∙ ap (λ gs. owners gs words) (sym (map-append give (take i areas) (get_or areas i d ∷ [])) ∙ ap (map give) (sym (take_more areas i d lt)))
+    ∙ ap (λ gs. owners gs words) (sym (map-append give (take i areas) (get_or areas i d ∷ []))
+    ∙ ap (map give) (sym (take_more areas i d lt)))
 
 -- there is room for their runs
 pub give-fits : (words i : ℕ) (areas : List Area) (d : Area) → i < length areas → length areas ≤ 2047
@@ -39,9 +40,11 @@ map-flat f g (x ∷ xs) = map-append f (g x) (flat_map g xs) ∙ ap (λ ys. map 
 pub gives-are : (harts : ℕ) (all : List Home) → map give (flat_map (owned_areas harts) all) ≡ flat_map (gives_of harts) all
 gives-are harts all = map-flat give (owned_areas harts) all
 
-pub few-owned : (plan : Said) (images : List (List ℕ)) → length plan.modules ≤ 63 → length (flat_map (owned_areas (length plan.harts)) (homes plan images)) ≤ 2047
+pub few-owned : (plan : Said) (images : List (List ℕ)) → length plan.modules ≤ 63
+    → length (flat_map (owned_areas (length plan.harts)) (homes plan images)) ≤ 2047
 few-owned plan images few =
     let all = flat_map (owned_areas (length plan.harts)) (homes plan images) in
     let gives = few_gives_all plan images in
-    let same : length (flat_map (gives_of (length plan.harts)) (homes plan images)) ≡ length all = ap length (sym (gives-are (length plan.harts) (homes plan images))) ∙ length-map all give in
+    let same : length (flat_map (gives_of (length plan.harts)) (homes plan images)) ≡ length all =
+    ap length (sym (gives-are (length plan.harts) (homes plan images))) ∙ length-map all give in
     omega (arith, gives, same, few)

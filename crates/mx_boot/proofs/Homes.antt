@@ -14,7 +14,8 @@ pub home_is : (plan : Said) (images : List (List ℕ)) (i : ℕ) (m : ModulePlan
     → slice_get (homes plan images) i ≡ Some (home images (i, m))
 home_is plan images i m e =
     let at : slice_get (enumerate_from 0 plan.modules) i ≡ Some (i, m) =
-    subst (λ k. slice_get (enumerate_from 0 plan.modules) i ≡ Some (k, m)) (let same : 0 + i ≡ i = omega arith in same) (at_numbered plan.modules 0 i m e) in
+    subst (λ k. slice_get (enumerate_from 0 plan.modules) i ≡ Some (k, m)) (let same : 0 + i ≡ i = omega arith in same)
+    (at_numbered plan.modules 0 i m e) in
     at_mapped (home images) (enumerate_from 0 plan.modules) i (i, m) at
 
 pub length-homes : (plan : Said) (images : List (List ℕ)) → length (homes plan images) ≡ length plan.modules
@@ -25,5 +26,6 @@ pub few_words : (plan : ModulePlan) → IfSome plan.stack_words (IsBetween 1 104
 few_words plan h = search (arith, plan.stack_words)
 
 -- the domain of a hart is a module's
-pub hart_domain : (plan : Said) (h : ℕ) (hart : HartPlan) → IsInRange plan → slice_get plan.harts h ≡ Some hart → IsBetween 1 (length plan.modules) hart.module
+pub hart_domain : (plan : Said) (h : ℕ) (hart : HartPlan) → IsInRange plan → slice_get plan.harts h ≡ Some hart
+    → IsBetween 1 (length plan.modules) hart.module
 hart_domain plan h hart in_range at = (in_range.harts h hart at).domain

@@ -1,5 +1,6 @@
 -- Modules of a plan without a fault: their areas lie in RAM.
-use Rattle.std.proofs.Common.{◌≡◌, ℕ, ◌+◌, ◌*◌, ◌≤◌, true, false, cond, List, [], ◌∷◌, ◌++◌, length, map, slice_get, Option, Some, None, IfSome, unwrap_or, Result, Ok, Err, refl, ap, arith}
+use Rattle.std.proofs.Common.{◌≡◌, ℕ, ◌+◌, ◌*◌, ◌≤◌, true, false, cond, List, [], ◌∷◌, ◌++◌, length, map, slice_get, Option, Some, None}
+use Rattle.std.proofs.Common.{IfSome, unwrap_or, Result, Ok, Err, refl, ap, arith}
 use Rattle.std.specs.List.{AllByRecursion, enumerate_from, flat_map}
 use Rattle.std.specs.Option.{is_some, option_map_or}
 use Rattle.std.proofs.lemmas.List.{length-append, length-map}
@@ -19,7 +20,8 @@ use Rattle.mx_manifest.specs.InRange.{IsBetween, IsInRange}
 use Rattle.mx_manifest.specs.InRange as range
 use Rattle.mx_manifest.specs.Plan.{Said}
 use Rattle.mx_boot.specs.declared.area.Area as area
-use Rattle.mx_boot.specs.Areas.{Home, home, homes, image, read_as, pieces, heaps, stacks, input_areas, heap_words, stack_words, heap_area, stack_area, input_area, areas_of, areas}
+use Rattle.mx_boot.specs.Areas.{Home, home, homes, image, read_as, pieces, heaps, stacks, input_areas, heap_words, stack_words, heap_area}
+use Rattle.mx_boot.specs.Areas.{stack_area, input_area, areas_of, areas}
 use Rattle.mx_boot.specs.Boot.{module_of, owned_pieces, give, gives_of}
 use Rattle.mx_boot.specs.Entries.{word_at}
 use Rattle.mx_boot.specs.Faults.{is_in_ram}
@@ -35,14 +37,16 @@ abbrev pub Inside : ℕ → List area.Area → Type 0
 Inside words all = AllByRecursion (λ a. is_in_ram words a ≡ true) all
 
 -- the areas of each module
-pub home_inside : (plan : Said) (images : List (List ℕ)) (words i : ℕ) (m : ModulePlan) → Inside words (areas plan images) → slice_get plan.modules i ≡ Some m
+pub home_inside : (plan : Said) (images : List (List ℕ)) (words i : ℕ) (m : ModulePlan) → Inside words (areas plan images)
+    → slice_get plan.modules i ≡ Some m
     → Inside words (areas_of (length plan.harts) (home images (i, m)))
 home_inside plan images words i m all at =
     all_at (λ h. Inside words (areas_of (length plan.harts) h)) (homes plan images) i (home images (i, m))
     (all_parts (areas_of (length plan.harts)) (λ a. is_in_ram words a ≡ true) (homes plan images) all) (home_is plan images i m at)
 
 -- an area that is there has words
-pub has_words : (place words : Option ℕ) (most address : ℕ) → is_some place ≡ is_some words → IfSome words (IsBetween 1 most) → place ≡ Some address → 1 ≤ unwrap_or words 0
+pub has_words : (place words : Option ℕ) (most address : ℕ) → is_some place ≡ is_some words → IfSome words (IsBetween 1 most)
+    → place ≡ Some address → 1 ≤ unwrap_or words 0
 has_words place None most address whole h e = absurd (let f : is_some place ≡ true = ap is_some e in cc)
 has_words place (Some words) most address whole h e = h.0
 
@@ -51,9 +55,11 @@ pub record IsKept (words first count reach : ℕ) : Type 0 where
   pub fits : first + reach ≤ words
   pub none : count ≡ 0 → first ≡ 0
 
-heap_kept : (words : ℕ) (h : Home) (o : Option ℕ) → (h.plan.heap ≡ o) → is_some h.plan.heap ≡ is_some h.plan.heap_words → IfSome h.plan.heap_words (IsBetween 1 16777216)
+heap_kept : (words : ℕ) (h : Home) (o : Option ℕ) → (h.plan.heap ≡ o) → is_some h.plan.heap ≡ is_some h.plan.heap_words
+    → IfSome h.plan.heap_words (IsBetween 1 16777216)
     → Inside words (option_map_or (λ address. heap_area h address ∷ []) o [])
-    → let a : Area = option_map_or (λ address. record { first = word_at address; count = heap_words h.plan }) o (record { first = 0; count = 0 }) in IsKept words a.first a.count a.count
+    → let a : Area = option_map_or (λ address. record { first = word_at address; count = heap_words h.plan }) o
+    (record { first = 0; count = 0 }) in IsKept words a.first a.count a.count
 heap_kept words h None e whole between inside = record { fits = omega arith; none = λ z. refl }
 heap_kept words h (Some address) e whole between inside =
     let some = has_words h.plan.heap h.plan.heap_words 16777216 address whole between e in
@@ -62,9 +68,11 @@ heap_kept words h (Some address) e whole between inside =
       none = λ z. absurd (let q : ⊥ = omega (arith, some, z) in q);
     }
 
-stack_kept : (words harts : ℕ) (h : Home) (o : Option ℕ) → (h.plan.stack ≡ o) → is_some h.plan.stack ≡ is_some h.plan.stack_words → IfSome h.plan.stack_words (IsBetween 1 1048576)
+stack_kept : (words harts : ℕ) (h : Home) (o : Option ℕ) → (h.plan.stack ≡ o) → is_some h.plan.stack ≡ is_some h.plan.stack_words
+    → IfSome h.plan.stack_words (IsBetween 1 1048576)
     → Inside words (option_map_or (λ address. stack_area harts h address ∷ []) o [])
-    → let a : Stack = option_map_or (λ address. record { first = word_at address; words = stack_words h.plan }) o (record { first = 0; words = 0 }) in IsKept words a.first a.words (a.words * harts)
+    → let a : Stack = option_map_or (λ address. record { first = word_at address; words = stack_words h.plan }) o
+    (record { first = 0; words = 0 }) in IsKept words a.first a.words (a.words * harts)
 stack_kept words harts h None e whole between inside = record { fits = omega arith; none = λ z. refl }
 stack_kept words harts h (Some address) e whole between inside =
     let some = has_words h.plan.stack h.plan.stack_words 1048576 address whole between e in
@@ -73,18 +81,30 @@ stack_kept words harts h (Some address) e whole between inside =
       none = λ z. absurd (let q : ⊥ = omega (arith, some, z) in q);
     }
 
-pub module_valid : (words harts modules : ℕ) (h : Home) → range.IsModule modules h.domain h.plan → Inside words (areas_of harts h) → IsHome words harts (module_of h.plan)
+pub module_valid : (words harts modules : ℕ) (h : Home) → range.IsModule modules h.domain h.plan → Inside words (areas_of harts h)
+    → IsHome words harts (module_of h.plan)
 module_valid words harts modules h in_range inside =
     let heap = heap_part (λ a. is_in_ram words a ≡ true) harts h inside in
     let stack = stack_part (λ a. is_in_ram words a ≡ true) harts h inside in
-    search (arith, heap_kept, h.plan.heap, in_range.heap_whole, in_range.heap_words, stack_kept, h.plan.stack, in_range.stack_whole, in_range.stack_words)
+    search (
+      arith,
+      heap_kept,
+      h.plan.heap,
+      in_range.heap_whole,
+      in_range.heap_words,
+      stack_kept,
+      h.plan.stack,
+      in_range.stack_whole,
+      in_range.stack_words,
+    )
 
 pub modules_valid : (plan : Said) (images : List (List ℕ)) (words : ℕ) → IsInRange plan → Inside words (areas plan images)
     → AllByRecursion (IsHome words (length plan.harts)) (map module_of plan.modules)
 modules_valid plan images words in_range all =
     all_mapped module_of (IsHome words (length plan.harts)) plan.modules
     (from-each (λ m. IsHome words (length plan.harts) (module_of m)) plan.modules
-    (λ i m at. module_valid words (length plan.harts) (length plan.modules) (home images (i, m)) (in_range.modules i m at) (home_inside plan images words i m all at)))
+    (λ i m at. module_valid words (length plan.harts) (length plan.modules) (home images (i, m)) (in_range.modules i m at)
+    (home_inside plan images words i m all at)))
 
 -- a module gives at most 19 areas
 few_read : (bytes : List ℕ) (r : Result Image ImageFault) → r ≡ image_of bytes → length (read_as r).segments ≤ 16
@@ -121,24 +141,29 @@ few_gives harts h =
     let given = length-map (owned_pieces h ++ heaps h ++ stacks harts h ++ input_areas h) give in
     omega (arith, owned, heap, stack, input, first, second, third, given)
 
-pub few_gives_all : (plan : Said) (images : List (List ℕ)) → length (flat_map (gives_of (length plan.harts)) (homes plan images)) ≤ 19 * length plan.modules
+pub few_gives_all : (plan : Said) (images : List (List ℕ)) → length (flat_map (gives_of (length plan.harts)) (homes plan images)) ≤ 19
+    * length plan.modules
 few_gives_all plan images =
-    let few = length-flat_at_most (gives_of (length plan.harts)) 19 (homes plan images) (all_each (λ h. length (gives_of (length plan.harts) h) ≤ 19) (homes plan images) (few_gives (length plan.harts))) in
+    let few = length-flat_at_most (gives_of (length plan.harts)) 19 (homes plan images)
+    (all_each (λ h. length (gives_of (length plan.harts) h) ≤ 19) (homes plan images) (few_gives (length plan.harts))) in
     omega (arith, few, length-homes plan images)
 
 -- a module's areas are given to it
 pieces_own : (h : Home) → AllByRecursion (λ (a : area.Area). a.domain ≡ h.domain) (pieces h)
 pieces_own h = search (arith, all_mapped, all_each)
 
-heap_own : (h : Home) (o : Option ℕ) → AllByRecursion (λ (a : area.Area). a.domain ≡ h.domain) (option_map_or (λ address. heap_area h address ∷ []) o [])
+heap_own : (h : Home) (o : Option ℕ) → AllByRecursion (λ (a : area.Area). a.domain ≡ h.domain)
+    (option_map_or (λ address. heap_area h address ∷ []) o [])
 heap_own h None = tt
 heap_own h (Some address) = (refl, tt)
 
-stack_own : (harts : ℕ) (h : Home) (o : Option ℕ) → AllByRecursion (λ (a : area.Area). a.domain ≡ h.domain) (option_map_or (λ address. stack_area harts h address ∷ []) o [])
+stack_own : (harts : ℕ) (h : Home) (o : Option ℕ) → AllByRecursion (λ (a : area.Area). a.domain ≡ h.domain)
+    (option_map_or (λ address. stack_area harts h address ∷ []) o [])
 stack_own harts h None = tt
 stack_own harts h (Some address) = (refl, tt)
 
-input_own : (h : Home) (o : Option InputPlan) → AllByRecursion (λ (a : area.Area). a.domain ≡ h.domain) (option_map_or (λ input. input_area h input ∷ []) o [])
+input_own : (h : Home) (o : Option InputPlan) → AllByRecursion (λ (a : area.Area). a.domain ≡ h.domain)
+    (option_map_or (λ input. input_area h input ∷ []) o [])
 input_own h None = tt
 input_own h (Some input) = (refl, tt)
 
@@ -146,7 +171,8 @@ areas_own : (harts : ℕ) (h : Home) → AllByRecursion (λ (a : area.Area). a.d
 areas_own harts h =
     let P : area.Area → Type 0 = λ a. a.domain ≡ h.domain in
     all-join P (pieces h ++ heaps h ++ stacks harts h) (input_areas h)
-    (all-join P (pieces h ++ heaps h) (stacks harts h) (all-join P (pieces h) (heaps h) (pieces_own h) (heap_own h h.plan.heap)) (stack_own harts h h.plan.stack))
+    (all-join P (pieces h ++ heaps h) (stacks harts h) (all-join P (pieces h) (heaps h) (pieces_own h) (heap_own h h.plan.heap))
+    (stack_own harts h h.plan.stack))
     (input_own h h.plan.input)
 
 gives_small : (harts modules : ℕ) (h : Home) → h.domain ≤ modules → AllByRecursion (λ (g : Give). g.value ≤ modules) (gives_of harts h)
@@ -154,18 +180,27 @@ gives_small harts modules h le =
     let all = owned_areas harts h in
     let own = owned_part (λ (a : area.Area). a.domain ≡ h.domain) harts h (areas_own harts h) in
     all_mapped give (λ (g : Give). g.value ≤ modules) all
-    (all-weaker (λ (a : area.Area). a.domain ≡ h.domain) (λ (a : area.Area). a.domain ≤ modules) all (λ a same. omega (arith, same, le)) own)
+    (all-weaker (λ (a : area.Area). a.domain ≡ h.domain) (λ (a : area.Area). a.domain ≤ modules) all (λ a same. omega (arith, same, le))
+    own)
 
 newest_small : (most d i : ℕ) (gives : List Give) → AllByRecursion (λ (g : Give). g.value ≤ most) gives → d ≤ most → newest d gives i ≤ most
 newest_small most d i [] all le = le
 newest_small most d i (g ∷ gives) all le =
-    newest_small most (laid_at i d g) i gives all.1 (elim (covers g.first g.count i) as (λ b. cond b g.value d ≤ most) [ true ↦ all.0 | false ↦ le ])
+    newest_small most (laid_at i d g) i gives all.1 (elim (covers g.first g.count i) as (λ b. cond b g.value d ≤ most) [
+      | true ↦
+          all.0
+      | false ↦ le
+    ])
 
-pub owners_small : (plan : Said) (images : List (List ℕ)) (i : ℕ) → owner (flat_map (gives_of (length plan.harts)) (homes plan images)) i ≤ length plan.modules
+pub owners_small : (plan : Said) (images : List (List ℕ)) (i : ℕ)
+    → owner (flat_map (gives_of (length plan.harts)) (homes plan images)) i ≤ length plan.modules
 owners_small plan images i =
     newest_small (length plan.modules) 0 i (flat_map (gives_of (length plan.harts)) (homes plan images))
     (all_flat (gives_of (length plan.harts)) (λ (g : Give). g.value ≤ length plan.modules) (homes plan images)
-    (all_mapped (home images) (λ h. AllByRecursion (λ (g : Give). g.value ≤ length plan.modules) (gives_of (length plan.harts) h)) (enumerate_from 0 plan.modules)
-    (all_numbered (λ (p : ℕ × ModulePlan). AllByRecursion (λ (g : Give). g.value ≤ length plan.modules) (gives_of (length plan.harts) (home images p))) 0 plan.modules
-    (λ k m at. gives_small (length plan.harts) (length plan.modules) (home images (0 + k, m)) (let below = slice_get_within plan.modules k m at in omega (arith, below))))))
+    (all_mapped (home images) (λ h. AllByRecursion (λ (g : Give). g.value ≤ length plan.modules) (gives_of (length plan.harts) h))
+    (enumerate_from 0 plan.modules)
+    (all_numbered (λ (p : ℕ × ModulePlan). AllByRecursion (λ (g : Give). g.value ≤ length plan.modules)
+    (gives_of (length plan.harts) (home images p))) 0 plan.modules
+    (λ k m at. gives_small (length plan.harts) (length plan.modules) (home images (0 + k, m)) (let below =
+    slice_get_within plan.modules k m at in omega (arith, below))))))
     (omega arith)

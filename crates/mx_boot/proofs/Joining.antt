@@ -49,7 +49,8 @@ module _ (plan : Said) (images : List (List ℕ)) (in_range : IsInRange plan) (n
   inside = all_inside (ram_words plan) [] (areas plan images) clear.placed
 
   homes_valid : AllByRecursion (λ m. IsHome (ram_words plan) (length plan.harts) (module_of m)) plan.modules
-  homes_valid = all_unmapped module_of (IsHome (ram_words plan) (length plan.harts)) plan.modules (modules_valid plan images (ram_words plan) in_range inside)
+  homes_valid = all_unmapped module_of (IsHome (ram_words plan) (length plan.harts)) plan.modules
+      (modules_valid plan images (ram_words plan) in_range inside)
 
   pub heap-fits : (i : ℕ) (m : ModulePlan) → slice_get plan.modules i ≡ Some m → (heap_of m).first + (heap_of m).count ≤ ram_words plan
   heap-fits i m at = (all_at (λ m. IsHome (ram_words plan) (length plan.harts) (module_of m)) plan.modules i m homes_valid at).heap
@@ -60,11 +61,13 @@ module _ (plan : Said) (images : List (List ℕ)) (in_range : IsInRange plan) (n
   pub heap-told : (i : ℕ) (m : ModulePlan) → slice_get plan.modules i ≡ Some m → told_heap (heap_state m) ≡ heap_state m
   heap-told i m at = search (arith, all_at, plan.modules, homes_valid)
 
-  heap_within : (d : ℕ) → (heap_at (map heap_state plan.modules) d).area.first + (heap_at (map heap_state plan.modules) d).area.count ≤ ram_words plan
+  heap_within : (d : ℕ) → (heap_at (map heap_state plan.modules) d).area.first + (heap_at (map heap_state plan.modules) d).area.count
+      ≤ ram_words plan
   heap_within d = elim (cases_lt (d - 1) (length plan.modules)) [
     | inl lt ↦ (
         let found = there plan.modules (d - 1) lt in
-        let at = get_or_from_slice_get (map heap_state plan.modules) (d - 1) (heap_state found.0) no_heap (at_mapped heap_state plan.modules (d - 1) found.0 found.1) in
+        let at = get_or_from_slice_get (map heap_state plan.modules) (d - 1) (heap_state found.0) no_heap
+        (at_mapped heap_state plan.modules (d - 1) found.0 found.1) in
         subst (λ (h : HeapState). h.area.first + h.area.count ≤ ram_words plan) (sym at) (heap-fits (d - 1) found.0 found.1))
     | inr past ↦ (search (arith, length-map, plan.modules, get_or_past))
   ]
@@ -82,16 +85,34 @@ module _ (plan : Said) (images : List (List ℕ)) (in_range : IsInRange plan) (n
   gates-single = single_gates (areas plan images) (requests plan images) clear.asked
 
   pub gates-few : length (map gate_of (requests plan images)) ≤ 256
-  gates-few = let few = few_gates (areas plan images) (requests plan images) clear.asked in omega (arith, length-map (requests plan images) gate_of, few)
+  gates-few = let few = few_gates (areas plan images) (requests plan images) clear.asked in
+      omega (arith, length-map (requests plan images) gate_of, few)
 
 -- parts one by one
-pub parts-are : (plan : Said) (images inputs : List (List ℕ)) (kind : Kind) (maps : List (List Perm)) (size : ℕ) (limit : Need) (buffer : ℕ) (harts : List Kept) (ram owners : List ℕ) (gates : List Gate) (heaps : List HeapState)
-    → kind ≡ plan.tables → maps ≡ boot_maps plan images → size ≡ ram_words plan → limit ≡ limit_of plan → buffer ≡ plan.lookaside → harts ≡ new_harts (length plan.harts)
-    → ram ≡ boot_ram plan images inputs → owners ≡ boot_owners plan images → gates ≡ map gate_of (requests plan images) → heaps ≡ map heap_state plan.modules
-    → (let p : Parts = record { kind = kind; maps = maps; size = size; limit = limit; buffer = buffer; harts = harts; ram = ram; owners = owners; gates = gates; heaps = heaps } in p) ≡ boot_parts plan images inputs
-parts-are plan images inputs kind maps size limit buffer harts ram owners gates heaps a b c d e f g h i j = rw (a, b, c, d, e, f, g, h, i, j) refl
+pub parts-are : (plan : Said) (images inputs : List (List ℕ)) (kind : Kind) (maps : List (List Perm)) (size : ℕ) (limit : Need) (buffer : ℕ)
+    (harts : List Kept) (ram owners : List ℕ) (gates : List Gate) (heaps : List HeapState)
+    → kind ≡ plan.tables → maps ≡ boot_maps plan images → size ≡ ram_words plan → limit ≡ limit_of plan → buffer ≡ plan.lookaside
+    → harts ≡ new_harts (length plan.harts)
+    → ram ≡ boot_ram plan images inputs → owners ≡ boot_owners plan images → gates ≡ map gate_of (requests plan images)
+    → heaps ≡ map heap_state plan.modules
+    → (let p : Parts = record {
+      kind = kind;
+      maps = maps;
+      size = size;
+      limit = limit;
+      buffer = buffer;
+      harts = harts;
+      ram = ram;
+      owners =
+          owners;
+      gates = gates;
+      heaps = heaps;
+    } in p) ≡ boot_parts plan images inputs
+parts-are plan images inputs kind maps size limit buffer harts ram owners gates heaps a b c d e f g h i j =
+    rw (a, b, c, d, e, f, g, h, i, j) refl
 
 -- gates that are the plan's, among maps and words that are its own
-pub gates-hold : (plan : Said) (images : List (List ℕ)) (maps : List (List Perm)) (size : ℕ) (gates : List Gate) → IsInRange plan → first_fault plan images ≡ None → maps ≡ boot_maps plan images
+pub gates-hold : (plan : Said) (images : List (List ℕ)) (maps : List (List Perm)) (size : ℕ) (gates : List Gate) → IsInRange plan
+    → first_fault plan images ≡ None → maps ≡ boot_maps plan images
     → size ≡ ram_words plan → gates ≡ map gate_of (requests plan images) → AllByRecursion (IsGate (length maps) size) gates
 gates-hold plan images maps size gates in_range none a b c = rw (a, b, c) (parts-gates plan images in_range none)

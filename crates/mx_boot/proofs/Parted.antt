@@ -27,7 +27,8 @@ module _ (P : Area → Type 0) (harts : ℕ) (h : Home) (all : AllByRecursion P 
   piece_part = all-first P (pieces h) (heaps h) but_stack
 
   pub granted_part : AllByRecursion P (granted_areas harts h)
-  granted_part = all-join P (pieces h ++ stacks harts h) (input_areas h) (all-join P (pieces h) (stacks harts h) piece_part stack_part) input_part
+  granted_part = all-join P (pieces h ++ stacks harts h) (input_areas h) (all-join P (pieces h) (stacks harts h) piece_part stack_part)
+      input_part
 
   owned_piece_part : AllByRecursion P (owned_pieces h)
   owned_piece_part = elim h.plan.seal as (λ b. AllByRecursion P (cond b [] (pieces h))) [ true ↦ tt | false ↦ piece_part ]
@@ -35,4 +36,5 @@ module _ (P : Area → Type 0) (harts : ℕ) (h : Home) (all : AllByRecursion P 
   pub owned_part : AllByRecursion P (owned_areas harts h)
   owned_part =
       all-join P (owned_pieces h ++ heaps h ++ stacks harts h) (input_areas h)
-      (all-join P (owned_pieces h ++ heaps h) (stacks harts h) (all-join P (owned_pieces h) (heaps h) owned_piece_part heap_part) stack_part) input_part
+      (all-join P (owned_pieces h ++ heaps h) (stacks harts h) (all-join P (owned_pieces h) (heaps h) owned_piece_part heap_part)
+      stack_part) input_part

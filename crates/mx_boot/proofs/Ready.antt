@@ -14,12 +14,19 @@ use Rattle.mx_boot.specs.Starting.{hart_starts, stack_areas}
 use Rattle.mx_boot.proofs.Joining.{gates-hold, parts-joined}
 use Rattle.mx_boot.proofs.Starting.{may-start}
 
-pub ready : (plan : Said) (images inputs : List (List ℕ)) → IsInRange plan → first_fault plan images ≡ None → (p : Parts) (starts : List HartStart) (stacks : List StackArea)
+pub ready : (plan : Said) (images inputs : List (List ℕ)) → IsInRange plan → first_fault plan images ≡ None
+    → (p : Parts) (starts : List HartStart) (stacks : List StackArea)
     → p ≡ boot_parts plan images inputs → starts ≡ hart_starts plan images → stacks ≡ stack_areas plan
     → AreJoined p × (AllByRecursion (IsGate (length p.maps) p.size) p.gates × MayStart p starts stacks)
 ready plan images inputs in_range none p starts stacks parts starts-are stacks-are =
-    let may : MayStart p starts stacks = subst (λ q. MayStart q starts stacks) (sym parts) (subst (λ s. MayStart (boot_parts plan images inputs) s stacks) (sym starts-are)
-    (subst (λ k. MayStart (boot_parts plan images inputs) (hart_starts plan images) k) (sym stacks-are) (may-start plan images in_range none inputs))) in (
+    let may : MayStart p starts stacks = subst (λ q. MayStart q starts stacks) (sym parts)
+    (subst (λ s. MayStart (boot_parts plan images inputs) s stacks) (sym starts-are)
+    (subst (λ k. MayStart (boot_parts plan images inputs) (hart_starts plan images) k) (sym stacks-are)
+    (may-start plan images in_range none inputs))) in (
       subst AreJoined (sym parts) (parts-joined plan images in_range none inputs),
-      (gates-hold plan images p.maps p.size p.gates in_range none (ap (λ q. q.maps) parts) (ap (λ q. q.size) parts) (ap (λ q. q.gates) parts), may),
+      (
+        gates-hold plan images p.maps p.size p.gates in_range none (ap (λ q. q.maps) parts) (ap (λ q. q.size) parts)
+            (ap (λ q. q.gates) parts),
+        may,
+      ),
     )

@@ -1,5 +1,6 @@
 -- The spans of areas in the order of their addresses have the map of the areas' grants.
-use Rattle.std.proofs.Common.{◌≡◌, ◌⊎◌, inl, inr, ℕ, ◌+◌, ◌<◌, ◌≤◌, true, false, List, [], ◌∷◌, ◌++◌, length, get_or, map, Some, None, refl, ap, ◌∙◌, sym, subst, arith}
+use Rattle.std.proofs.Common.{◌≡◌, ◌⊎◌, inl, inr, ℕ, ◌+◌, ◌<◌, ◌≤◌, true, false, List, [], ◌∷◌, ◌++◌, length, get_or, map, Some, None, refl}
+use Rattle.std.proofs.Common.{ap, ◌∙◌, sym, subst, arith}
 use Rattle.std.specs.List.{AllByRecursion, list_any, range_with_len}
 use Rattle.std.proofs.lemmas.Bool.{cases_lt}
 use Rattle.std.proofs.lemmas.List.{length-append, get_or_append_left, get_or-append-add, map-append}
@@ -50,22 +51,28 @@ grown P row s h p i lt = elim (cases_lt i (length row)) [
       let long : length (row ++ s ∷ []) ≡ length row + 1 = length-append row (s ∷ []) in
       let here : length row + 0 ≡ i = omega (arith, long, lt, past) in
       let last : get_or (row ++ s ∷ []) (length row + 0) no_span ≡ s = get_or-append-add row (s ∷ []) 0 no_span in
-      subst (λ k. P k (get_or (row ++ s ∷ []) k no_span)) here (subst (P (length row + 0)) (sym last) (subst (λ k. P k s) (let same : length row ≡ length row + 0 = omega arith in same) p)))
+      subst (λ k. P k (get_or (row ++ s ∷ []) k no_span)) here
+      (subst (P (length row + 0)) (sym last) (subst (λ k. P k s) (let same : length row ≡ length row + 0 = omega arith in same) p)))
 ]
 
 -- no area covers a word
-no_area : (areas : List Area) (w : ℕ) → AllByRecursion (λ a. covers (word_at a.address) a.count w ≡ true → ⊥) areas → at (map grant areas) w ≡ P.None
+no_area : (areas : List Area) (w : ℕ) → AllByRecursion (λ a. covers (word_at a.address) a.count w ≡ true → ⊥) areas
+    → at (map grant areas) w ≡ P.None
 no_area areas w none = newest_is P.None P.None (map grant areas) w
     (all_mapped grant (λ (e : Grant). is_over w e ≡ true → e.value ≡ P.None) areas
-    (all-weaker (λ (a : Area). covers (word_at a.address) a.count w ≡ true → ⊥) (λ (a : Area). covers (word_at a.address) a.count w ≡ true → a.perm ≡ P.None) areas
+    (all-weaker (λ (a : Area). covers (word_at a.address) a.count w ≡ true → ⊥) (λ (a : Area). covers (word_at a.address) a.count w ≡ true
+    → a.perm ≡ P.None) areas
     (λ a not h. absurd (not h)) none))
     (inr refl)
 
-any_each : (areas : List Area) (w : ℕ) → AllByRecursion (λ a. covers (word_at a.address) a.count w ≡ true → list_any (is_over w) (map grant areas) ≡ true) areas
-any_each areas w = from-each (λ (a : Area). covers (word_at a.address) a.count w ≡ true → list_any (is_over w) (map grant areas) ≡ true) areas
+any_each : (areas : List Area) (w : ℕ) → AllByRecursion (λ a. covers (word_at a.address) a.count w ≡ true
+    → list_any (is_over w) (map grant areas) ≡ true) areas
+any_each areas w = from-each (λ (a : Area). covers (word_at a.address) a.count w ≡ true
+    → list_any (is_over w) (map grant areas) ≡ true) areas
     (λ i a found h. any_passes_from_place (is_over w) (map grant areas) i (grant a) (at_mapped grant areas i a found) h)
 
-module _ (words to : ℕ) (areas : List Area) (row : List Span) (a : Area) (placed : ArePlaced words areas) (so_far : IsRowTo words to areas row) (next : next_area to areas ≡ Some a) where
+module _ (words to : ℕ) (areas : List Area) (row : List Span) (a : Area) (placed : ArePlaced words areas)
+    (so_far : IsRowTo words to areas row) (next : next_area to areas ≡ Some a) where
   abbrev s : Span
   s = span_of a
 
@@ -82,7 +89,8 @@ module _ (words to : ℕ) (areas : List Area) (row : List Span) (a : Area) (plac
   fits = end_is words a (in_ram words a own.inside)
 
   -- an area that covers a word of this one is this one
-  same : (b : Area) (w : ℕ) → IsPlaced words b → (shares_word b a ≡ false) ⊎ (b ≡ a) → covers (word_at b.address) b.count w ≡ true → covers (word_at a.address) a.count w ≡ true → b ≡ a
+  same : (b : Area) (w : ℕ) → IsPlaced words b → (shares_word b a ≡ false) ⊎ (b ≡ a) → covers (word_at b.address) b.count w ≡ true
+      → covers (word_at a.address) a.count w ≡ true → b ≡ a
   same b w there apart cb ca = elim apart [
     | inl no_word ↦ absurd (let both = both_cover words b a w (in_ram words b there.inside) (in_ram words a own.inside) cb ca in cc)
     | inr is ↦ is
@@ -96,14 +104,16 @@ module _ (words to : ℕ) (areas : List Area) (row : List Span) (a : Area) (plac
       let ca = covers_in (word_at a.address) a.count w ge lt in
       newest_is P.None a.perm (map grant areas) w
       (search (arith, all_mapped, is_over, all-weaker, same, others))
-      (inl (next-is (λ b. covers (word_at b.address) b.count w ≡ true → list_any (is_over w) (map grant areas) ≡ true) to areas a (any_each areas w) next ca))
+      (inl (next-is (λ b. covers (word_at b.address) b.count w ≡ true
+      → list_any (is_over w) (map grant areas) ≡ true) to areas a (any_each areas w) next ca))
 
   between : (w : ℕ) → to ≤ w → w < word_at a.address → at (map grant areas) w ≡ P.None
   between w ge lt = no_area areas w
       (all-weaker (λ b. (word_at b.address < to → end_of b ≤ to) × (to ≤ word_at b.address → word_at a.address ≤ word_at b.address))
       (λ (b : Area). covers (word_at b.address) b.count w ≡ true → ⊥) areas
       (search (arith, covers_from, cases_lt))
-      (all_both (λ (b : Area). word_at b.address < to → end_of b ≤ to) (λ (b : Area). to ≤ word_at b.address → word_at a.address ≤ word_at b.address) areas so_far.apart (next-least to areas a next)))
+      (all_both (λ (b : Area). word_at b.address < to → end_of b ≤ to) (λ (b : Area). to ≤ word_at b.address
+      → word_at a.address ≤ word_at b.address) areas so_far.apart (next-least to areas a next)))
 
   more : (w : ℕ) → at (map granted (row ++ s ∷ [])) w ≡ laid_at w (at (map granted row) w) (granted s)
   more w = ap (λ gs. at gs w) (map-append granted row (s ∷ [])) ∙ newest-append P.None (map granted row) (granted s) w
@@ -116,7 +126,8 @@ module _ (words to : ℕ) (areas : List Area) (row : List Span) (a : Area) (plac
   rest w ge = more w ∙ laid_at_behind w (at (map granted row) w) (granted s) ge ∙ so_far.rest w (let f = from in omega (arith, f, ge))
 
   apart : AllByRecursion (λ b. word_at b.address < end_of a → end_of b ≤ end_of a) areas
-  apart = all-weaker (λ b. ((word_at b.address < to → end_of b ≤ to) × (to ≤ word_at b.address → word_at a.address ≤ word_at b.address)) × (IsPlaced words b × ((shares_word b a ≡ false) ⊎ (b ≡ a))))
+  apart = all-weaker (λ b. ((word_at b.address < to → end_of b ≤ to) × (to ≤ word_at b.address → word_at a.address ≤ word_at b.address))
+      × (IsPlaced words b × ((shares_word b a ≡ false) ⊎ (b ≡ a))))
       (λ (b : Area). word_at b.address < end_of a → end_of b ≤ end_of a) areas
       (λ b h lt. let f = from in elim (cases_lt (word_at b.address) to) [
         | inl before ↦ (let e = h.0.0 before in omega (arith, e, f))
@@ -133,8 +144,10 @@ module _ (words to : ℕ) (areas : List Area) (row : List Span) (a : Area) (plac
   before_is : (i : ℕ) → i < length row → get_or (row ++ s ∷ []) i no_span ≡ get_or row i no_span
   before_is i lt = get_or_append_left row (s ∷ []) no_span i lt
 
-  sorted : (i : ℕ) → i + 1 < length (row ++ s ∷ []) → (get_or (row ++ s ∷ []) i no_span).first + (get_or (row ++ s ∷ []) i no_span).count ≤ (get_or (row ++ s ∷ []) (i + 1) no_span).first
-  sorted i lt = grown (λ k x. (j : ℕ) → j + 1 ≡ k → (get_or (row ++ s ∷ []) j no_span).first + (get_or (row ++ s ∷ []) j no_span).count ≤ x.first) row s
+  sorted : (i : ℕ) → i + 1 < length (row ++ s ∷ []) → (get_or (row ++ s ∷ []) i no_span).first + (get_or (row ++ s ∷ []) i no_span).count
+      ≤ (get_or (row ++ s ∷ []) (i + 1) no_span).first
+  sorted i lt = grown (λ k x. (j : ℕ) → j + 1 ≡ k → (get_or (row ++ s ∷ []) j no_span).first + (get_or (row ++ s ∷ []) j no_span).count
+      ≤ x.first) row s
       (search (arith, before_is, so_far.is.sorted))
       (search (arith, so_far.last, from, before_is))
       (i + 1) lt i refl
@@ -146,7 +159,8 @@ module _ (words to : ℕ) (areas : List Area) (row : List Span) (a : Area) (plac
       sorted = sorted;
       inside = grown (λ i x. x.first + x.count ≤ words) row s so_far.is.inside fits;
     };
-    last = grown (λ i x. x.first + x.count ≤ end_of a) row s (λ i lt. let l = so_far.last i lt in let f = from in omega (arith, l, f)) ((omega arith));
+    last = grown (λ i x. x.first + x.count ≤ end_of a) row s (λ i lt. let l = so_far.last i lt in let f = from in omega (arith, l, f))
+        ((omega arith));
     few = (let few = so_far.few in let f = from in let some = own.some in omega (arith, length-append row (s ∷ []), few, f, some));
     within = fits;
     apart = apart;
@@ -163,11 +177,15 @@ map_same f g [] h = refl
 map_same f g (x ∷ xs) h = ap (λ y. y ∷ map f xs) (h x) ∙ ap (λ ys. g x ∷ ys) (map_same f g xs h)
 
 -- where no area begins at a word or after it, the row is whole
-pub row-end : (words to : ℕ) (areas : List Area) (row : List Span) → IsRowTo words to areas row → next_area to areas ≡ None → row_map words row ≡ map_of (map grant areas) words
-row-end words to areas row so_far none = map_same (at (map granted row)) (at (map grant areas)) (range_with_len 0 words) (λ w. elim (cases_lt w to) [
-  | inl before ↦ so_far.done w before
-  | inr ge ↦ so_far.rest w ge ∙ sym (no_area areas w
-      (all-weaker (λ b. (word_at b.address < to → end_of b ≤ to) × (word_at b.address < to)) (λ (b : Area). covers (word_at b.address) b.count w ≡ true → ⊥) areas
-      (λ b h c. let r = covers_from (word_at b.address) b.count w c in let e = h.0 h.1 in let q : ⊥ = omega (arith, e, r.1, ge) in q)
-      (all_both (λ (b : Area). word_at b.address < to → end_of b ≤ to) (λ (b : Area). word_at b.address < to) areas so_far.apart (next-none to areas none))))
-])
+pub row-end : (words to : ℕ) (areas : List Area) (row : List Span) → IsRowTo words to areas row → next_area to areas ≡ None
+    → row_map words row ≡ map_of (map grant areas) words
+row-end words to areas row so_far none = map_same (at (map granted row)) (at (map grant areas)) (range_with_len 0 words) (λ w.
+    elim (cases_lt w to) [
+      | inl before ↦ so_far.done w before
+      | inr ge ↦ so_far.rest w ge ∙ sym (no_area areas w
+          (all-weaker (λ b. (word_at b.address < to → end_of b ≤ to) × (word_at b.address < to)) (λ (b : Area).
+          covers (word_at b.address) b.count w ≡ true → ⊥) areas
+          (λ b h c. let r = covers_from (word_at b.address) b.count w c in let e = h.0 h.1 in let q : ⊥ = omega (arith, e, r.1, ge) in q)
+          (all_both (λ (b : Area). word_at b.address < to → end_of b ≤ to) (λ (b : Area). word_at b.address < to) areas so_far.apart
+          (next-none to areas none))))
+    ])

@@ -23,18 +23,24 @@ pub record AreRowsTo (plan : Said) (images : List (List ℕ)) (i : ℕ) (rows : 
   pub each : AllByRecursion (IsRow (ram_words plan)) rows
   pub maps : map (row_map (ram_words plan)) rows ≡ map (home_map plan) (take i (homes plan images))
 
-pub rows-next : (plan : Said) (images : List (List ℕ)) (i : ℕ) (rows : List (List Span)) (h : Home) (row : List Span) → slice_get (homes plan images) i ≡ Some h
-    → AreRowsTo plan images i rows → IsRow (ram_words plan) row → row_map (ram_words plan) row ≡ home_map plan h → AreRowsTo plan images (i + 1) (rows ++ row ∷ [])
+pub rows-next : (plan : Said) (images : List (List ℕ)) (i : ℕ) (rows : List (List Span)) (h : Home) (row : List Span)
+    → slice_get (homes plan images) i ≡ Some h
+    → AreRowsTo plan images i rows → IsRow (ram_words plan) row → row_map (ram_words plan) row ≡ home_map plan h
+    → AreRowsTo plan images (i + 1) (rows ++ row ∷ [])
 rows-next plan images i rows h row at so_far is same = record {
   each = all-join (IsRow (ram_words plan)) rows (row ∷ []) so_far.each (is, tt);
-  maps = grown_by_one (home_map plan) (homes plan images) i h [] (map (row_map (ram_words plan)) rows) (map (row_map (ram_words plan)) (rows ++ row ∷ [])) (row_map (ram_words plan) row)
+  maps = grown_by_one (home_map plan) (homes plan images) i h [] (map (row_map (ram_words plan)) rows)
+      (map (row_map (ram_words plan)) (rows ++ row ∷ [])) (row_map (ram_words plan) row)
       at so_far.maps same (map-append (row_map (ram_words plan)) rows (row ∷ []));
 }
 
-maps_are : (plan : Said) (hs : List Home) → map (home_map plan) hs ≡ map (λ grants. map_of grants (ram_words plan)) (map (grants_of (length plan.harts)) hs)
+maps_are : (plan : Said) (hs : List Home) → map (home_map plan) hs
+    ≡ map (λ grants. map_of grants (ram_words plan)) (map (grants_of (length plan.harts)) hs)
 maps_are plan [] = refl
 maps_are plan (h ∷ hs) = ap (λ ms. home_map plan h ∷ ms) (maps_are plan hs)
 
-pub rows-end : (plan : Said) (images : List (List ℕ)) (i : ℕ) (rows : List (List Span)) → length (homes plan images) ≤ i → AreRowsTo plan images i rows
+pub rows-end : (plan : Said) (images : List (List ℕ)) (i : ℕ) (rows : List (List Span)) → length (homes plan images) ≤ i
+    → AreRowsTo plan images i rows
     → map (row_map (ram_words plan)) rows ≡ boot_maps plan images
-rows-end plan images i rows past so_far = so_far.maps ∙ ap (map (home_map plan)) (take_all i (homes plan images) past) ∙ maps_are plan (homes plan images)
+rows-end plan images i rows past so_far = so_far.maps ∙ ap (map (home_map plan)) (take_all i (homes plan images) past)
+    ∙ maps_are plan (homes plan images)

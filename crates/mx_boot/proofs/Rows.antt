@@ -1,5 +1,6 @@
 -- The first of the rows of elements, one by one.
-use Rattle.std.proofs.Common.{◌≡◌, ℕ, zero, suc, ◌+◌, ◌≤◌, List, [], ◌∷◌, ◌++◌, length, take, drop, map, slice_get, Option, Some, None, option_map, refl, ap, ◌∙◌, sym, subst, arith, append_assoc, Bool, true, false}
+use Rattle.std.proofs.Common.{◌≡◌, ℕ, zero, suc, ◌+◌, ◌≤◌, List, [], ◌∷◌, ◌++◌, length, take, drop, map, slice_get, Option, Some, None}
+use Rattle.std.proofs.Common.{option_map, refl, ap, ◌∙◌, sym, subst, arith, append_assoc, Bool, true, false}
 use Rattle.std.specs.List.{enumerate_from, flat_map}
 use Rattle.std.specs.Option.{option_or}
 use Rattle.std.proofs.lemmas.List.{take_more, append-nil, map-append, drop_all}
@@ -21,11 +22,13 @@ at_from : {A B : Type 0} (rows : A → List (Row B)) (xs : List A) (i : ℕ) (x 
     → first_from rows i xs ≡ option_or (first_row (rows x)) (first_from rows (i + 1) xs)
 at_from rows xs i x at = ap (λ ys. first_row (flat_map rows ys)) (drop_at xs i x at) ∙ first_row-append (rows x) _
 
-pub first_next : {A B : Type 0} (rows : A → List (Row B)) (xs : List A) (i : ℕ) (x : A) → slice_get xs i ≡ Some x → first_row (rows x) ≡ None
+pub first_next : {A B : Type 0} (rows : A → List (Row B)) (xs : List A) (i : ℕ) (x : A) → slice_get xs i ≡ Some x
+    → first_row (rows x) ≡ None
     → first_from rows (i + 1) xs ≡ first_from rows i xs
 first_next rows xs i x at none = sym (at_from rows xs i x at ∙ ap (λ o. option_or o (first_from rows (i + 1) xs)) none)
 
-pub first_here : {A B : Type 0} (rows : A → List (Row B)) (xs : List A) (i : ℕ) (x : A) (fault : B) → slice_get xs i ≡ Some x → first_row (rows x) ≡ Some fault
+pub first_here : {A B : Type 0} (rows : A → List (Row B)) (xs : List A) (i : ℕ) (x : A) (fault : B) → slice_get xs i ≡ Some x
+    → first_row (rows x) ≡ Some fault
     → first_from rows i xs ≡ Some fault
 first_here rows xs i x fault at some = at_from rows xs i x at ∙ ap (λ o. option_or o (first_from rows (i + 1) xs)) some
 
@@ -33,18 +36,22 @@ pub first_end : {A B : Type 0} (rows : A → List (Row B)) (xs : List A) (i : �
 first_end rows xs i past = ap (λ ys. first_row (flat_map rows ys)) (drop_all i xs past)
 
 -- an element of a numbered list
-pub at_numbered : {A : Type 0} (xs : List A) (n i : ℕ) (x : A) → slice_get xs i ≡ Some x → slice_get (enumerate_from n xs) i ≡ Some (n + i, x)
+pub at_numbered : {A : Type 0} (xs : List A) (n i : ℕ) (x : A) → slice_get xs i ≡ Some x
+    → slice_get (enumerate_from n xs) i ≡ Some (n + i, x)
 at_numbered [] n i x e = cc
 at_numbered (y ∷ xs) n zero x e =
-    subst (λ k. slice_get (enumerate_from n (y ∷ xs)) 0 ≡ Some (k, x)) (let same : n ≡ n + 0 = omega arith in same) (ap (λ z. Some (n, z)) (same_Some _ _ e))
+    subst (λ k. slice_get (enumerate_from n (y ∷ xs)) 0 ≡ Some (k, x)) (let same : n ≡ n + 0 = omega arith in same)
+    (ap (λ z. Some (n, z)) (same_Some _ _ e))
 at_numbered (y ∷ xs) n (suc i) x e =
-    subst (λ k. slice_get (enumerate_from (n + 1) xs) i ≡ Some (k, x)) (let same : n + 1 + i ≡ n + suc i = omega arith in same) (at_numbered xs (n + 1) i x e)
+    subst (λ k. slice_get (enumerate_from (n + 1) xs) i ≡ Some (k, x)) (let same : n + 1 + i ≡ n + suc i = omega arith in same)
+    (at_numbered xs (n + 1) i x e)
 
 pub at_mapped : {A B : Type 0} (f : A → B) (xs : List A) (i : ℕ) (x : A) → slice_get xs i ≡ Some x → slice_get (map f xs) i ≡ Some (f x)
 at_mapped f xs i x e = slice_get-map f xs i ∙ ap (option_map f) e
 
 pub at_counted : {A : Type 0} (xs : List A) (i : ℕ) (x : A) → slice_get xs i ≡ Some x → slice_get (enumerate_from 0 xs) i ≡ Some (i, x)
-at_counted xs i x e = subst (λ k. slice_get (enumerate_from 0 xs) i ≡ Some (k, x)) (let same : 0 + i ≡ i = omega arith in same) (at_numbered xs 0 i x e)
+at_counted xs i x e = subst (λ k. slice_get (enumerate_from 0 xs) i ≡ Some (k, x)) (let same : 0 + i ≡ i = omega arith in same)
+    (at_numbered xs 0 i x e)
 
 -- one row
 pub one_applies : {B : Type 0} (test : Bool) (fault : B) → test ≡ true → first_row ((test, fault) ∷ []) ≡ Some fault

@@ -38,7 +38,8 @@ module _ (plan : Said) (images : List (List ℕ)) where
   pub at_areas : (fault : BootFault) → images_found ≡ None → areas_found ≡ Some fault → first_fault plan images ≡ Some fault
   at_areas fault a b = first_is ∙ rw (a, b) refl
 
-  pub at_gates : (refused : LayoutRefused) → images_found ≡ None → areas_found ≡ None → Tells gates_found refused → Tells (first_fault plan images) refused
+  pub at_gates : (refused : LayoutRefused) → images_found ≡ None → areas_found ≡ None → Tells gates_found refused
+      → Tells (first_fault plan images) refused
   at_gates x a b c = grind (arith, first_is)
 
   pub at_harts : (refused : LayoutRefused) → images_found ≡ None → areas_found ≡ None → gates_found ≡ None → Tells harts_found refused
@@ -59,17 +60,20 @@ module _ (plan : Said) (images : List (List ℕ)) where
   areas_are found words all size same e =
       sym (e ∙ ap (λ n. first_row (areas_rows n [] all)) size ∙ ap (λ xs. first_row (areas_rows (ram_words plan) [] xs)) same)
 
-  pub asked_are : (all : List Area) (earlier later : List Gate) (result : Result (Unit {0}) LayoutRefused) → all ≡ areas plan images → earlier ≡ []
+  pub asked_are : (all : List Area) (earlier later : List Gate) (result : Result (Unit {0}) LayoutRefused) → all ≡ areas plan images
+      → earlier ≡ []
       → AreAsked all earlier (requests plan images) later result → AreAsked (areas plan images) [] (requests plan images) later result
   asked_are all earlier later result same none a =
       subst (λ e. AreAsked (areas plan images) e (requests plan images) later result) none
       (subst (λ xs. AreAsked xs earlier (requests plan images) later result) same a)
 
-  pub gates_are : (found : Option BootFault) → first_row (gates_rows (areas plan images) [] (requests plan images)) ≡ found → gates_found ≡ found
+  pub gates_are : (found : Option BootFault) → first_row (gates_rows (areas plan images) [] (requests plan images)) ≡ found
+      → gates_found ≡ found
   unfolding gates_found
   gates_are found e = e
 
-  pub gates_tell : (refused : LayoutRefused) → Tells (first_row (gates_rows (areas plan images) [] (requests plan images))) refused → Tells gates_found refused
+  pub gates_tell : (refused : LayoutRefused) → Tells (first_row (gates_rows (areas plan images) [] (requests plan images))) refused
+      → Tells gates_found refused
   unfolding gates_found
   gates_tell refused e = e
 
@@ -88,7 +92,8 @@ pub parts_clear : (plan : Said) (images : List (List ℕ)) → first_fault plan 
     × (first_row (harts_rows plan images) ≡ None)
 unfolding images_found areas_found gates_found harts_found
 parts_clear plan images e =
-    let last = neither (option_or (option_or (images_found plan images) (areas_found plan images)) (gates_found plan images)) (harts_found plan images) (sym (first_is plan images) ∙ e) in
+    let last = neither (option_or (option_or (images_found plan images) (areas_found plan images)) (gates_found plan images))
+    (harts_found plan images) (sym (first_is plan images) ∙ e) in
     let next = neither (option_or (images_found plan images) (areas_found plan images)) (gates_found plan images) last.0 in
     let first = neither (images_found plan images) (areas_found plan images) next.0 in
     (first.1, next.1, last.1)

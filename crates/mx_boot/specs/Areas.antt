@@ -1,6 +1,7 @@
 -- What each module brings into RAM: its areas, and the bytes with which its segments or its inline words begin.
 -- The rules: docs/MACHINE.md, "Memory, domains, harts".
-use Rattle.std.specs.Prelude.{ℕ, ◌+◌, ◌*◌, ◌/◌, ◌%◌, ◌++◌, Bool, if◌then◌else◌, List, [], ◌∷◌, map, take, drop, length, slice_index_or, unwrap_or, Result, Ok, Err}
+use Rattle.std.specs.Prelude.{ℕ, ◌+◌, ◌*◌, ◌/◌, ◌%◌, ◌++◌, Bool, if◌then◌else◌, List, [], ◌∷◌, map, take, drop, length, slice_index_or}
+use Rattle.std.specs.Prelude.{unwrap_or, Result, Ok, Err}
 use Rattle.std.specs.List.{enumerate_from, flat_map}
 use Rattle.std.specs.Option.{is_some, option_map_or}
 use Rattle.mx_words.specs.declared.perm.Perm.TheVariants as P

@@ -1,6 +1,7 @@
 -- The state at boot: what a plan, its images and its inputs give if they have no fault and their maps fit.
 -- The rules: docs/MACHINE.md, "Memory, domains, harts".
-use Rattle.std.specs.Prelude.{ℕ, ◌+◌, ◌-◌, ◌*◌, false, if◌then◌else◌, List, [], ◌++◌, length, replicate, slice_set, slice_get, fold, map, Option, Some, None, unwrap_or, Result, Ok, Err}
+use Rattle.std.specs.Prelude.{ℕ, ◌+◌, ◌-◌, ◌*◌, false, if◌then◌else◌, List, [], ◌++◌, length, replicate, slice_set, slice_get, fold, map}
+use Rattle.std.specs.Prelude.{Option, Some, None, unwrap_or, Result, Ok, Err}
 use Rattle.std.specs.List.{enumerate_from, flat_map}
 use Rattle.std.specs.Option.{option_map_or}
 use Rattle.mx_words.specs.declared.tables.Need.{Need}

@@ -1,6 +1,7 @@
 -- The faults of a plan with its images, 10 to 17: all rows in the order in which they are tested, of which the first that applies decides.
 -- The rules: docs/COMMANDS.md, "The manifest".
-use Rattle.std.specs.Prelude.{ℕ, ◌+◌, ◌*◌, ◌/◌, ◌%◌, ◌==◌, Bool, true, false, not, ◌&&◌, nat_le, if◌then◌else◌, List, [], ◌∷◌, ◌++◌, length, find, Option, unwrap_or, Result, Ok, Err}
+use Rattle.std.specs.Prelude.{ℕ, ◌+◌, ◌*◌, ◌/◌, ◌%◌, ◌==◌, Bool, true, false, not, ◌&&◌, nat_le, if◌then◌else◌, List, [], ◌∷◌, ◌++◌, length}
+use Rattle.std.specs.Prelude.{find, Option, unwrap_or, Result, Ok, Err}
 use Rattle.std.specs.List.{enumerate_from, flat_map, list_any}
 use Rattle.std.specs.Option.{is_some, option_map_or}
 use Rattle.mx_words.specs.FirstRow.{Row, first_row}

@@ -1,6 +1,7 @@
 -- Areas that lie apart in RAM, and bytes that lie there.
 -- The rules: docs/MACHINE.md, "Memory, domains, harts".
-use Rattle.std.specs.Prelude.{◌≡◌, ◌⊎◌, ℕ, ◌+◌, ◌-◌, ◌<◌, ◌≤◌, true, false, nat_lt, nat_le, if◌then◌else◌, List, ◌++◌, length, fold, Option, Some, None}
+use Rattle.std.specs.Prelude.{◌≡◌, ◌⊎◌, ℕ, ◌+◌, ◌-◌, ◌<◌, ◌≤◌, true, false, nat_lt, nat_le, if◌then◌else◌, List, ◌++◌, length, fold, Option}
+use Rattle.std.specs.Prelude.{Some, None}
 use Rattle.std.specs.List.{AllByRecursion, flat_map}
 use Rattle.mx_words.specs.Ranges.{ram_base}
 use Rattle.mx_boot.specs.declared.area.Area.{Area}

@@ -3,7 +3,8 @@
 use mx_manifest::Key;
 use mx_words::Perm;
 
-/// An area that a module claims: a loaded segment of its image or its inline words, its heap area, its stack area, or its
+/// An area that a module claims: a loaded segment of its image or its inline words, its heap area, its stack area, or
+/// its
 /// input area.
 #[derive(Clone, Copy, PartialEq, Eq)]
 pub struct Area {

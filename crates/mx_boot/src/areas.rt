@@ -2,7 +2,7 @@
 
 ghost use Rattle.std.specs.Prelude.{◌≡◌, ◌++◌, ◌≤◌, [], ◌∷◌, length, map, find, unwrap_or, IfOk, IfSome, OnOk};
 ghost use Rattle.mx_words.specs.FirstRow.{first_row};
-ghost use Rattle.mx_words.specs.Limits.{most_harts};
+ghost use Rattle.mx_words.specs.Limits.{most_harts, most_stack_words};
 ghost use Rattle.mx_elf.specs.Segment.{permission_of, word_count};
 ghost use Rattle.mx_boot.specs.Areas.{areas, areas_of, heaps, inline_area, input_areas, pieces, segment_area, stacks};
 ghost use Rattle.mx_boot.specs.Faults.{area_rows, areas_rows, is_in_ram, shares_word};
@@ -124,7 +124,7 @@ pub(crate) fn add_heap(areas: &mut Vec<Area>, home: Home) -> Result<(), NoMemory
 
 /// Adds a module's stack area with words for each hart, if it has one.
 pub(crate) fn add_stack(areas: &mut Vec<Area>, home: Home, harts: u32) -> Result<(), NoMemory>
-    requires few { IfSome (seen home).plan.stack_words (λ words. words ≤ 1048576) }
+    requires few { IfSome (seen home).plan.stack_words (λ words. words ≤ most_stack_words) }
     requires harts { harts ≤ most_harts }
     ensures { OnOk result (areas.new.items ≡ areas.old.items ++ stacks harts (seen home.entry)) }
 {
@@ -165,7 +165,7 @@ pub(crate) fn add_input(areas: &mut Vec<Area>, home: Home) -> Result<(), NoMemor
 
 /// Adds the areas of a module.
 fn add_areas(areas: &mut Vec<Area>, home: Home, harts: u32) -> Result<(), NoMemory>
-    requires few { IfSome (seen home).plan.stack_words (λ words. words ≤ 1048576) }
+    requires few { IfSome (seen home).plan.stack_words (λ words. words ≤ most_stack_words) }
     requires harts { harts ≤ most_harts }
     ensures { OnOk result (areas.new.items ≡ areas.old.items ++ areas_of harts (seen home.entry)) }
 {

@@ -188,9 +188,12 @@ fn boot_files(
     }
 }
 
-/// Boots a plan with its images and its inputs, one of each for each module; that of an inline module is empty, and so is
-/// that of a module without an input. An input fits its area behind the word that tells its size. The machine is the state
-/// at boot exactly where the plan has none of the faults 10 to 17 and its maps fit the limit of its tables. A fault is the
+/// Boots a plan with its images and its inputs, one of each for each module; that of an inline module is empty, and so
+/// is
+/// that of a module without an input. An input fits its area behind the word that tells its size. The machine is the
+/// state
+/// at boot exactly where the plan has none of the faults 10 to 17 and its maps fit the limit of its tables. A fault is
+/// the
 /// first one in the order of the tests, and faults come before tables; only `NoMemory` has no cause in them.
 pub fn boot(
     alloc: Global,

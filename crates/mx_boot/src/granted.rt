@@ -4,7 +4,7 @@ ghost use Rattle.std.specs.Prelude.{◌≡◌, ◌≤◌, ◌++◌, None, [], �
 ghost use Rattle.std.specs.List.{AllByRecursion};
 ghost use Rattle.mx_table.specs.Tables.{IsRow, most_words, row_map};
 ghost use Rattle.mx_words.specs.Newest.{map as map_of};
-ghost use Rattle.mx_words.specs.Limits.{most_harts};
+ghost use Rattle.mx_words.specs.Limits.{most_harts, most_stack_words};
 ghost use Rattle.mx_boot.specs.Boot.{grant, grants_of};
 ghost use Rattle.mx_boot.specs.Faults.{first_fault, ram_words};
 ghost use Rattle.mx_boot.specs.Joined.{boot_maps};
@@ -23,7 +23,7 @@ use std::alloc::Global;
 
 /// The areas on which a module has rights.
 fn granted_areas(alloc: Global, home: Home, harts: u32) -> Result<Vec<Area>, NoMemory>
-    requires few { IfSome (seen home).plan.stack_words (λ words. words ≤ 1048576) }
+    requires few { IfSome (seen home).plan.stack_words (λ words. words ≤ most_stack_words) }
     requires harts { harts ≤ most_harts }
     ensures { IfOk result (λ areas. areas.items ≡ granted_areas harts (seen home.entry)) }
 {
@@ -82,7 +82,7 @@ fn row(alloc: Global, areas: &[Area], words: u32) -> Result<Spans, NoMemory>
 
 /// The row of a module.
 fn row_of(alloc: Global, home: Home, harts: u32, words: u32) -> Result<Spans, NoMemory>
-    requires few { IfSome (seen home).plan.stack_words (λ words. words ≤ 1048576) }
+    requires few { IfSome (seen home).plan.stack_words (λ words. words ≤ most_stack_words) }
     requires harts { harts ≤ most_harts }
     requires placed { ArePlaced words (granted_areas harts (seen home)) }
     requires size { words ≤ most_words }

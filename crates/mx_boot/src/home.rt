@@ -1,6 +1,7 @@
 //! A module with its domain and its file.
 
 ghost use Rattle.std.specs.Prelude.{◌≡◌, ◌-◌, ◌^◌, ◌<◌, ◌≤◌, length, slice_get, IfSome};
+ghost use Rattle.mx_words.specs.Limits.{most_stack_words};
 ghost use Rattle.mx_boot.specs.Areas.{homes};
 ghost use Rattle.mx_boot.specs.Seen.{seen};
 
@@ -24,7 +25,7 @@ pub(crate) fn home_at<'p, 'i, 'f>(
     requires below { i < length plan.now.modules }
     requires small { i < 2 ^ 32 - 1 }
     ensures home { slice_get (homes plan.now images.now) i ≡ Some (seen result) }
-    ensures few { IfSome (seen result).plan.stack_words (λ words. words ≤ 1048576) }
+    ensures few { IfSome (seen result).plan.stack_words (λ words. words ≤ most_stack_words) }
 {
     Home {
         domain: i + 1,

@@ -13,8 +13,10 @@ ghost use Rattle.mx_boot.specs.Inputs.{AreInputs};
 
 use mx_manifest::{Plan, plan_is_in_range};
 
-/// Each state at boot of a plan in range, of images and of inputs that are bytes is valid, and in it each heap area of a
-/// module belongs to that module. Each state at boot has one list of grants for each module, so the laws of runs from valid states hold of
+/// Each state at boot of a plan in range, of images and of inputs that are bytes is valid, and in it each heap area of
+/// a
+/// module belongs to that module. Each state at boot has one list of grants for each module, so the laws of runs from
+/// valid states hold of
 /// its runs.
 pub fn boots_are_valid()
     ensures valid { (plan : Said) (images inputs : List (List ℕ)) (s : State) → IsInRange plan →

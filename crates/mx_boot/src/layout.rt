@@ -66,8 +66,10 @@ pub(crate) fn lay_out_files(
     }
 }
 
-/// Lays out a plan with its images, one for each module; that of an inline module is empty. The layout comes exactly where
-/// the plan has none of the faults 10 to 17, and a fault is the first one in the order of the tests; only `NoMemory` has no
+/// Lays out a plan with its images, one for each module; that of an inline module is empty. The layout comes exactly
+/// where
+/// the plan has none of the faults 10 to 17, and a fault is the first one in the order of the tests; only `NoMemory`
+/// has no
 /// cause in them.
 pub fn lay_out(alloc: Global, plan: &Plan, images: &[Blob]) -> Result<Layout, LayoutRefused>
     ensures { IsLaid plan.now images.now result }

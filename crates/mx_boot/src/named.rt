@@ -10,7 +10,8 @@ use mx_manifest::{EntryPlan, ModulePlan};
 use mx_words::NoMemory;
 use std::alloc::Global;
 
-/// How many names are searched for one by one: a walk over the symbols for all names together costs up to that many searches.
+/// How many names are searched for one by one: a walk over the symbols for all names together costs up to that many
+/// searches.
 const FEW_NAMES: usize = 16;
 
 /// Adds the name of an entry that is a symbol. Which names are looked up together decides nothing but the time.
@@ -37,7 +38,8 @@ fn add_returns<'a>(names: &mut Vec<&'a str>, plan: &'a ModulePlan) -> Result<(),
     Ok(())
 }
 
-/// The symbols by which a module's gates are named: of its image, in one walk over that, where there are more than a few.
+/// The symbols by which a module's gates are named: of its image, in one walk over that, where there are more than a
+/// few.
 pub(crate) fn gate_symbols<'a>(
     alloc: Global,
     home: Home<'a, '_, '_>,

@@ -3,7 +3,7 @@
 ghost use Rattle.std.specs.Prelude.{◌≡◌, ◌<◌, ◌≤◌, ◌++◌, None, length, map, IfOk, IfSome, OnOk};
 ghost use Rattle.std.specs.List.{AllByRecursion, flat_map};
 ghost use Rattle.mx_words.specs.Newest.{owners};
-ghost use Rattle.mx_words.specs.Limits.{most_harts, most_words};
+ghost use Rattle.mx_words.specs.Limits.{most_harts, most_stack_words, most_words};
 ghost use Rattle.mx_boot.specs.Areas.{homes};
 ghost use Rattle.mx_boot.specs.Boot.{give, owned_pieces};
 ghost use Rattle.mx_boot.specs.Faults.{first_fault};
@@ -34,7 +34,7 @@ fn add_owned_pieces(areas: &mut Vec<Area>, home: Home) -> Result<(), NoMemory>
 
 /// Adds the areas that a module owns.
 fn add_owned(areas: &mut Vec<Area>, home: Home, harts: u32) -> Result<(), NoMemory>
-    requires few { IfSome (seen home).plan.stack_words (λ words. words ≤ 1048576) }
+    requires few { IfSome (seen home).plan.stack_words (λ words. words ≤ most_stack_words) }
     requires harts { harts ≤ most_harts }
     ensures { OnOk result
         (areas.new.items ≡ areas.old.items ++ owned_areas harts (seen home.entry)) }
@@ -57,7 +57,8 @@ fn owned(alloc: Global, plan: &Plan, images: &Images) -> Result<Vec<Area>, NoMem
     Ok(all)
 }
 
-/// The owners of a RAM of so many words after its areas are given, each to its module. They are at most 2047, so they make
+/// The owners of a RAM of so many words after its areas are given, each to its module. They are at most 2047, so they
+/// make
 /// at most 4095 runs of words with one owner.
 fn give_all(alloc: Global, areas: &[Area], words: u32) -> Result<Owners, NoMemory>
     requires some { 0 < words }

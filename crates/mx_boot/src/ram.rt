@@ -1,10 +1,12 @@
 //! RAM at boot.
 
-ghost use Rattle.std.specs.Prelude.{◌≡◌, ◌%◌, ◌≤◌, ℕ, Some, None, [], length, map, take, drop, fold, slice_get, slice_index_or, IfOk, IfSome};
+ghost use Rattle.std.specs.Prelude.{◌≡◌, ◌%◌, ◌≤◌, ℕ, Some, None, [], length, map, take, drop, fold, slice_get};
+ghost use Rattle.std.specs.Prelude.{slice_index_or, IfOk, IfSome};
 ghost use Rattle.std.specs.List.{AllByRecursion};
 ghost use Rattle.mx_elf.specs.Image.{IsSound};
 ghost use Rattle.mx_manifest.specs.declared.parts.ModulePlan.{ModulePlan};
-ghost use Rattle.mx_boot.specs.Areas.{all_inputs, contents, inline_address, inline_content, input_content, input_contents, segment_content};
+ghost use Rattle.mx_boot.specs.Areas.{all_inputs, contents, inline_address, inline_content, input_content};
+ghost use Rattle.mx_boot.specs.Areas.{input_contents, segment_content};
 ghost use Rattle.mx_boot.specs.Boot.{boot_ram, with_content};
 ghost use Rattle.mx_boot.specs.Faults.{first_fault};
 ghost use Rattle.mx_boot.specs.Inputs.{AreInputs};

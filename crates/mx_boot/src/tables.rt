@@ -28,7 +28,8 @@ fn limit(plan: &Plan) -> Need
     }
 }
 
-/// The tables of a plan without a fault; or what they need, where that exceeds the plan's limit. Inputs decide nothing here.
+/// The tables of a plan without a fault; or what they need, where that exceeds the plan's limit. Inputs decide nothing
+/// here.
 pub(crate) fn tables<T: PermTables>(
     alloc: Global,
     plan: &Plan,

@@ -1,4 +1,5 @@
-//! What the loader answers, over texts of manifests and bytes of images. Expected values are written by hand from the rules.
+//! What the loader answers, over texts of manifests and bytes of images. Expected values are written by hand from the
+//! rules.
 
 use mx_boot::{Layout, LayoutRefused, lay_out};
 use mx_manifest::{BootFault, Key, Part, Place, read_manifest};

@@ -1,5 +1,6 @@
 -- A hart alone: its announced call is ready at once, and it is at rest again when the call was served.
-use Rattle.std.proofs.Common.{◌≡◌, ◌≢◌, ℕ, ◌<◌, inl, inr, true, false, List, length, Option, Some, None, refl, sym, ap, subst, ◌∙◌, arith, length-set, get_or-set_same}
+use Rattle.std.proofs.Common.{◌≡◌, ◌≢◌, ℕ, ◌<◌, inl, inr, true, false, List, length, Option, Some, None, refl, sym, ap, subst, ◌∙◌, arith}
+use Rattle.std.proofs.Common.{length-set, get_or-set_same}
 use Rattle.std.specs.Prelude.{IfSome}
 use Rattle.std.proofs.lemmas.List.{get_or_past}
 use Rattle.mx_words.specs.declared.perm.Perm.{Perm}
@@ -34,7 +35,8 @@ ready-alone h f harts n z e = rw (z, e) refl
 abbrev pub announces : ℕ → ℕ × ℕ → List Kept → List Kept
 announces h r harts = at_hart h (announced h r.0 r.1) harts
 
-own-part : (h : ℕ) (r : ℕ × ℕ) (harts : List Kept) → h < length harts → kept_at (announces h r harts) h ≡ announced h r.0 r.1 (kept_at harts h)
+own-part : (h : ℕ) (r : ℕ × ℕ) (harts : List Kept) → h < length harts
+    → kept_at (announces h r harts) h ≡ announced h r.0 r.1 (kept_at harts h)
 own-part h r harts there = get_or-set_same harts h (announced h r.0 r.1 (kept_at harts h)) nothing_kept there
 
 count-announces : (h : ℕ) (r : ℕ × ℕ) (harts : List Kept) → length (announces h r harts) ≡ length harts
@@ -84,7 +86,8 @@ rest-again call p q t r rest harts modules keeps sizes sound =
         hart = there;
         running = keeps.halted ∙ ap (λ (k : Kept). k.halted) own ∙ rest.may.running;
         free = keeps.flight;
-        heard = λ i ne. subst (λ (k : Kept). IfSome k.flight (λ f. is_in f.heard call.hart ≡ true)) (sym (none-behind t.harts call.hart i there count ne)) tt;
+        heard = λ i ne. subst (λ (k : Kept). IfSome k.flight (λ f. is_in f.heard call.hart ≡ true))
+            (sym (none-behind t.harts call.hart i there count ne)) tt;
         same_domain = if_some_after (λ x. x ≡ call.domain) call.domain (kept_at p.harts call.hart).domain (kept_at t.harts call.hart).domain
             (elim keeps.domain [ inl e ↦ inl (e ∙ ap (λ (k : Kept). k.domain) own) | inr e ↦ inr e ]) refl rest.may.same_domain;
       };
@@ -97,10 +100,12 @@ length-looked buffer kind m h place domain address harts = by (word_of address (
   where
     by : (o : Option ℕ) → length (looked_at buffer kind m h place domain o harts) ≡ length harts
     by None = length-set harts h (with_domain domain (kept_at harts h))
-    by (Some word) = length-set harts h (looks buffer place domain word (span kind m word) (is_forbidden h (span kind m word) harts) (kept_at harts h))
+    by (Some word) = length-set harts h (looks buffer place domain word (span kind m word) (is_forbidden h (span kind m word) harts)
+        (kept_at harts h))
 
 -- what an access of the hart leaves of it
-pub rest-accessed : (h d : ℕ) (p : Parts) (harts : List Kept) (ram : List ℕ) → IsAtRest h d p → length harts ≡ length p.harts → MayLook h d harts →
+pub rest-accessed : (h d : ℕ) (p : Parts) (harts : List Kept) (ram : List ℕ) → IsAtRest h d p → length harts ≡ length p.harts
+    → MayLook h d harts →
     length ram ≡ length p.ram → IsAtRest h d (record p { harts = harts; ram = ram })
 rest-accessed h d p harts ram rest count may size = record {
   sound = sound-ram (record p { harts = harts }) ram (with-harts p harts rest.sound) size;

@@ -1,5 +1,6 @@
 -- The parts of a supervisor at the start.
-use Rattle.std.proofs.Common.{◌≡◌, ℕ, ◌+◌, ◌-◌, ◌*◌, ◌==◌, ◌≤◌, Bool, true, false, cond, List, [], ◌∷◌, ◌++◌, length, replicate, lit<, arith, refl, ap, ◌∙◌}
+use Rattle.std.proofs.Common.{◌≡◌, ℕ, ◌+◌, ◌-◌, ◌*◌, ◌==◌, ◌≤◌, Bool, true, false, cond, List, [], ◌∷◌, ◌++◌, length, replicate, lit<}
+use Rattle.std.proofs.Common.{arith, refl, ap, ◌∙◌}
 use Rattle.std.proofs.lemmas.List.{length-replicate}
 use Rattle.std.specs.List.{AllByRecursion}
 use Rattle.mx_words.specs.declared.perm.Perm.{Perm}
@@ -18,18 +19,21 @@ use Rattle.mx_call_tests.specs.Calls.{EndsBy, IsAtRest}
 
 -- an area of no words ends nowhere
 told-ends : (n : ℕ) (heap : HeapState) → heap.area.first + heap.area.count ≤ n → EndsBy n (told_heap heap)
-told-ends n heap inside = elim (heap.area.count == 0) as (λ (b : Bool). (cond b no_area heap.area).first + (cond b no_area heap.area).count ≤ n) [
-  | true ↦ omega arith
-  | false ↦ inside
-]
+told-ends n heap inside = elim (heap.area.count == 0) as (λ (b : Bool).
+    (cond b no_area heap.area).first + (cond b no_area heap.area).count ≤ n) [
+      | true ↦ omega arith
+      | false ↦ inside
+    ]
 
 -- one heap more
-pub pushed_ends : (n : ℕ) (heaps : List HeapState) (heap : HeapState) → AllByRecursion (EndsBy n) heaps → heap.area.first + heap.area.count ≤ n →
+pub pushed_ends : (n : ℕ) (heaps : List HeapState) (heap : HeapState) → AllByRecursion (EndsBy n) heaps
+    → heap.area.first + heap.area.count ≤ n →
     AllByRecursion (EndsBy n) (heaps ++ told_heap heap ∷ [])
 pushed_ends n heaps heap all inside = all-append (EndsBy n) heaps (told_heap heap) all (told-ends n heap inside)
 
 -- each heap's area lies in a RAM by which they all end
-areas-in : (n : ℕ) (heaps : List HeapState) → AllByRecursion (EndsBy n) heaps → (d : ℕ) → (heap_at heaps d).area.first + (heap_at heaps d).area.count ≤ n
+areas-in : (n : ℕ) (heaps : List HeapState) → AllByRecursion (EndsBy n) heaps → (d : ℕ)
+    → (heap_at heaps d).area.first + (heap_at heaps d).area.count ≤ n
 areas-in n heaps all d = all-at (EndsBy n) heaps no_heap all (omega arith) (d - 1)
 
 -- the parts over tables of a kind, with one hart that has done nothing and a RAM of so many words
@@ -47,7 +51,8 @@ started kind maps size limit buffer words owners gates heaps = record {
   heaps = heaps;
 }
 
-pub joined-start : (kind : Kind) (maps : List (List Perm)) (size : ℕ) (limit : Need) (buffer words : ℕ) (owners : List ℕ) (gates : List Gate) (heaps : List HeapState) →
+pub joined-start : (kind : Kind) (maps : List (List Perm)) (size : ℕ) (limit : Need) (buffer words : ℕ) (owners : List ℕ)
+    (gates : List Gate) (heaps : List HeapState) →
     words ≡ size → length owners ≡ size → length heaps ≡ length maps → AllByRecursion (EndsBy size) heaps →
     AreJoined (started kind maps size limit buffer words owners gates heaps)
 joined-start kind maps size limit buffer words owners gates heaps is owned count all = record {
@@ -57,11 +62,13 @@ joined-start kind maps size limit buffer words owners gates heaps is owned count
   areas = areas-in size heaps all;
 }
 
-pub rest-start : (kind : Kind) (maps : List (List Perm)) (size : ℕ) (limit : Need) (buffer words : ℕ) (owners : List ℕ) (gates : List Gate) (heaps : List HeapState) →
+pub rest-start : (kind : Kind) (maps : List (List Perm)) (size : ℕ) (limit : Need) (buffer words : ℕ) (owners : List ℕ) (gates : List Gate)
+    (heaps : List HeapState) →
     IsShaped kind size limit maps → words ≡ size → length owners ≡ size → length heaps ≡ length maps → AllByRecursion (EndsBy size) heaps →
     IsAtRest 0 1 (started kind maps size limit buffer words owners gates heaps)
 rest-start kind maps size limit buffer words owners gates heaps shaped is owned count all = record {
-  sound = sound-joined (started kind maps size limit buffer words owners gates heaps) shaped (joined-start kind maps size limit buffer words owners gates heaps is owned count all);
+  sound = sound-joined (started kind maps size limit buffer words owners gates heaps) shaped
+      (joined-start kind maps size limit buffer words owners gates heaps is owned count all);
   domain = record { first = omega arith; last = shaped.some_maps };
   alone = refl;
   may = new_may 1 0 1 (lit< tt);

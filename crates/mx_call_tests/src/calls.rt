@@ -23,7 +23,8 @@ pub fn own_call(number: u32, args: [u32; 4]) -> Call
     }
 }
 
-/// Serves a call of a supervisor's only hart. A call that changes rights is announced first; no other hart has to hear it. What
+/// Serves a call of a supervisor's only hart. A call that changes rights is announced first; no other hart has to hear
+/// it. What
 /// stood in `out` is dropped, and the call's console bytes are put there.
 pub fn play<T: PermTables, const N: usize>(
     machine: &mut Supervisor<T, N>,

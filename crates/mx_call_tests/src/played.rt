@@ -69,7 +69,8 @@ fn owners_of(alloc: Global, own: Span, other: Span, heap: Block) -> Option<Owner
     Some(owners)
 }
 
-/// Domain 1 owns words 1024 to 1027, its heap area from word 3071 on, and 2045 words apart from others from word 8192 on. So the
+/// Domain 1 owns words 1024 to 1027, its heap area from word 3071 on, and 2045 words apart from others from word 8192
+/// on. So the
 /// owners form 4095 runs.
 fn crowded_owners(alloc: Global) -> Option<Owners>
     ensures { IfSome result (λ o. length o ≡ 16384) }
@@ -99,7 +100,8 @@ fn gates_from(first: u32, count: u32) -> Gates
     gates
 }
 
-/// A supervisor of two modules, each of which owns the words of its span and has its permission there. Domain 1 also has a heap
+/// A supervisor of two modules, each of which owns the words of its span and has its permission there. Domain 1 also
+/// has a heap
 /// area, and domain 2 a gate into domain 1 at word 0.
 pub fn started<T: PermTables + Drop, const N: usize>(
     alloc: Global,
@@ -119,8 +121,10 @@ pub fn started<T: PermTables + Drop, const N: usize>(
     machine(alloc, tables, owners, gates_from(0, 1), heaps)
 }
 
-/// A supervisor at its limits. Domain 1 has read-write on words 1024 to 1027 and a heap area of 1025 words with so many live blocks
-/// of one word from its beginning on; domain 2 has read on all words from 2048 on, owns none, and has 256 gates into domain 1 from
+/// A supervisor at its limits. Domain 1 has read-write on words 1024 to 1027 and a heap area of 1025 words with so many
+/// live blocks
+/// of one word from its beginning on; domain 2 has read on all words from 2048 on, owns none, and has 256 gates into
+/// domain 1 from
 /// word 1024 on. There is room for one run of owners.
 pub fn crowded<T: PermTables + Drop, const N: usize>(
     alloc: Global,

@@ -1,4 +1,5 @@
-//! The supervisor's calls over each kind of tables, with their answers by the table of calls (docs/MACHINE.md, "Supervisor calls").
+//! The supervisor's calls over each kind of tables, with their answers by the table of calls (docs/MACHINE.md,
+//! "Supervisor calls").
 ghost use Rattle.std.specs.Prelude.{◌+◌, ◌≤◌};
 ghost use Rattle.mx_table.specs.Tables.{IsLimit};
 ghost use Rattle.mx_call_tests.specs.Calls.{IsSample};
@@ -242,7 +243,8 @@ fn a_block_may_be_written_while_it_lives(rt: HostRuntime) {
     assert_eq!(rt; got, [WELL; 3]);
 }
 
-// Each call with each of its codes but that of full tables, and once or more without a refusal, in an order in which each finds
+// Each call with each of its codes but that of full tables, and once or more without a refusal, in an order in which
+// each finds
 // what those before it left.
 static CALLS: [Step; 53] = [
     Step::Call(2, [0x8000_1000, 4097, 0, 0], 0xFFFF_FFF5),
@@ -308,7 +310,8 @@ fn each_call_answers_by_its_row(rt: HostRuntime) {
     assert_eq!(rt; [segments, multilevel, packed], [WELL; 3]);
 }
 
-/// Just what a trie takes at the start: two root and two mid tables, and a leaf table for the page of domain 1's words. All other
+/// Just what a trie takes at the start: two root and two mid tables, and a leaf table for the page of domain 1's words.
+/// All other
 /// pages are even.
 const TIGHT: Need = Need {
     upper: 4,
@@ -331,7 +334,8 @@ const ONE_FRAME_EACH: Need = Need {
     spill: 0,
 };
 
-// Domain 2's map gets 64 runs, which fill its frame. Then the calls that change rights, each where the change would part one more of
+// Domain 2's map gets 64 runs, which fill its frame. Then the calls that change rights, each where the change would
+// part one more of
 // its runs.
 static FULL_FRAME: [Step; 5] = [
     Step::Splits(0x8000_8000, 31),

@@ -1,4 +1,5 @@
-//! Runs of a supervisor as lists of steps, for any tables: calls of a hart in domain 1 with their answers, and what is found.
+//! Runs of a supervisor as lists of steps, for any tables: calls of a hart in domain 1 with their answers, and what is
+//! found.
 ghost use Rattle.std.specs.Prelude.{◌≤◌, IsTrue};
 ghost use Rattle.mx_supervisor.specs.Parts.{parts_of};
 ghost use Rattle.mx_call_tests.specs.Calls.{IsReady};
@@ -19,7 +20,8 @@ pub enum Step {
     Call(u32, [u32; 4], u32),
     /// An exchange, which answers 0 and this word.
     Exchange([u32; 4], u32),
-    /// So many grants of permission none to domain 2, each of one word and 8 bytes after the one before, from an address on. Each
+    /// So many grants of permission none to domain 2, each of one word and 8 bytes after the one before, from an
+    /// address on. Each
     /// answers 0.
     Splits(u32, u32),
     /// An exit, which ends the hart with its code.

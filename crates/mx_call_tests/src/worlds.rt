@@ -15,7 +15,8 @@ use mx_supervisor::{Heaps, Supervisor};
 use mx_table::{PermTables, shape_of};
 use std::alloc::Global;
 
-/// A heap in this area, with live blocks of one word from its beginning on, as many as `blocks` or as have room. `None` where there
+/// A heap in this area, with live blocks of one word from its beginning on, as many as `blocks` or as have room. `None`
+/// where there
 /// is no memory.
 fn filled_heap(alloc: Global, area: Block, blocks: u32) -> Option<Heap>
     requires { area.first + area.count ≤ 16777216 }
@@ -31,7 +32,8 @@ fn filled_heap(alloc: Global, area: Block, blocks: u32) -> Option<Heap>
     Some(heap)
 }
 
-/// The heaps of so many modules: domain 1 has one in this area, with live blocks of one word from its beginning on, as many as
+/// The heaps of so many modules: domain 1 has one in this area, with live blocks of one word from its beginning on, as
+/// many as
 /// `blocks` or as have room; the other modules have none. `None` where there is no memory.
 #[tactic(auto, using(crate::proofs::WorldLaws::pushed_ends))]
 pub fn one_heap(alloc: Global, modules: u32, area: Block, blocks: u32) -> Option<Heaps>

@@ -1,5 +1,6 @@
 -- Coherence through a change: it meets no span of a hart that has heard of it, and the caller's own are exempt.
-use Rattle.std.proofs.Common.{◌≡◌, ◌≢◌, ℕ, zero, suc, ◌+◌, ◌-◌, ◌<◌, ◌≤◌, ◌⊎◌, inl, inr, ◌==◌, ◌||◌, true, false, List, [], ◌∷◌, length, get_or, Option, Some, None, refl, sym, ap, subst, ◌∙◌, arith}
+use Rattle.std.proofs.Common.{◌≡◌, ◌≢◌, ℕ, ◌+◌, ◌-◌, ◌<◌, ◌≤◌, ◌⊎◌, inl, inr, ◌==◌, ◌||◌, true, false, List, [], ◌∷◌, length, Option, Some}
+use Rattle.std.proofs.Common.{None, refl, sym, ap, subst, ◌∙◌, arith}
 use Rattle.std.specs.Prelude.{IfSome}
 use Rattle.std.proofs.lemmas.Bool.{cases_eq, cases_lt, ne_eqb}
 use Rattle.std.proofs.lemmas.List.{get_or_past}
@@ -8,10 +9,9 @@ use Rattle.mx_words.specs.declared.perm.Span.{Span}
 use Rattle.mx_words.specs.Counting.{all_below}
 use Rattle.mx_words.specs.Ranges.{covers}
 use Rattle.mx_words.specs.Rights.{perm_at}
-use Rattle.mx_words.specs.Caches.{Cache, meets}
-use Rattle.mx_words.specs.Changes.{grant_of, changed_map, changed_from}
+use Rattle.mx_words.specs.Caches.{meets}
 use Rattle.mx_words.proofs.CountingLaws.{all_below-at}
-use Rattle.mx_words.proofs.OverlayLaws.{laid_below, laid_behind, covers_in}
+use Rattle.mx_words.proofs.OverlayLaws.{covers_in}
 use Rattle.mx_table.specs.declared.change.Change.{Change}
 use Rattle.mx_table.specs.Change.{given, changed}
 use Rattle.mx_table.specs.Tables.{map_of}
@@ -20,25 +20,15 @@ use Rattle.mx_check.specs.declared.flight.Flight.{Flight}
 use Rattle.mx_words.specs.Hearing.{is_in}
 use Rattle.mx_check.specs.Harts.{Kept, nothing_kept, kept_at}
 use Rattle.mx_check.specs.Calls.{hart_lets_pass, ready_with, is_ready}
-use Rattle.mx_check.specs.Coherence.{EachSpan, is_spared, AgreesWithMap, AgreesIn, AreCurrent, HasDropped, Keeps}
+use Rattle.mx_check.specs.Coherence.{is_spared, AgreesWithMap, AgreesIn, AreCurrent, HasDropped, Keeps}
 use Rattle.mx_check.specs.Conditions.{IsInside}
-use Rattle.mx_check.proofs.SpanLaws.{each_weaker, outside_range}
+use Rattle.mx_words.proofs.SpanLaws.{each_weaker, outside_range, each_both}
+use Rattle.mx_words.proofs.ChangeLaws.{beside-from}
 
--- a map stays as it was outside the range of a change
-changed_map-outside : (first count : ℕ) (o : Option Perm) (m : List Perm) (w : ℕ) → (w < first) ⊎ (first + count ≤ w) → perm_at (changed_map first count o m) w ≡ perm_at m w
-changed_map-outside first count None m w out = refl
-changed_map-outside first count (Some p) m w (inl lt) = laid_below (grant_of first count p) m w P.None lt
-changed_map-outside first count (Some p) m w (inr le) = laid_behind (grant_of first count p) m w P.None le
-
-changed_from-outside : (first count : ℕ) (by : ℕ → Option Perm) (d k : ℕ) (ms : List (List Perm)) (w : ℕ) → (w < first) ⊎ (first + count ≤ w) →
-    perm_at (get_or (changed_from first count by d ms) k []) w ≡ perm_at (get_or ms k []) w
-changed_from-outside first count by d k [] w out = refl
-changed_from-outside first count by d zero (m ∷ ms) w out = changed_map-outside first count (by d) m w out
-changed_from-outside first count by d (suc k) (m ∷ ms) w out = changed_from-outside first count by (d + 1) k ms w out
-
+-- maps stay as they were outside the range of a change
 pub changed-outside : (c : Change) (maps : List (List Perm)) (d w : ℕ) → (w < c.first) ⊎ (c.first + c.count ≤ w) →
     perm_at (map_of (changed c maps) d) w ≡ perm_at (map_of maps d) w
-changed-outside c maps d w out = changed_from-outside c.first c.count (given c) 1 (d - 1) maps w out
+changed-outside c maps d w out = beside-from c.first c.count (given c) 1 (d - 1) maps [] w out
 
 -- a word outside a range that takes in the change's
 outside : (c : Change) (f : Flight) (w : ℕ) → IsInside c f → covers f.first f.count w ≡ false → (w < c.first) ⊎ (c.first + c.count ≤ w)
@@ -54,22 +44,13 @@ outside c f w inside out = by (cases_lt w c.first) (cases_lt w (c.first + c.coun
         let clash : true ≡ false = sym hit ∙ out in
         absurd (cc)
 
--- two facts of each span at once
-pub each_both : {E F : ℕ → Span → Type 0} {P Q : Span → Type 0} (c : Cache) → EachSpan E P c → EachSpan F Q c → EachSpan (λ d s. E d s × F d s) (λ s. P s × Q s) c
-each_both {E} {F} {P} {Q} c a b = record {
-  entries = λ k d lt. (a.entries k d lt, b.entries k d lt);
-  places = λ k d lt. place (get_or c.places k d) (a.places k d lt) (b.places k d lt);
-}
-  where
-    place : (o : Option Span) → IfSome o P → IfSome o Q → IfSome o (λ s. P s × Q s)
-    place None p q = tt
-    place (Some s) p q = (p, q)
-
 -- the range of a ready call: each other running hart has heard it
-ready-heard : (harts : List Kept) (h i : ℕ) (f : Flight) → (kept_at harts h).flight ≡ Some f → is_ready h harts ≡ true → i < length harts → i ≢ h →
+ready-heard : (harts : List Kept) (h i : ℕ) (f : Flight) → (kept_at harts h).flight ≡ Some f → is_ready h harts ≡ true → i < length harts
+    → i ≢ h →
     (kept_at harts i).halted ≡ false → is_in f.heard i ≡ true
 ready-heard harts h i f flying ready lt ne running =
-    let all : all_below (length harts) (hart_lets_pass h f harts) ≡ true = sym (ap (λ (o : Option Flight). ready_with h o harts) flying) ∙ ready in
+    let all : all_below (length harts) (hart_lets_pass h f harts) ≡ true = sym (ap (λ (o : Option Flight). ready_with h o harts) flying)
+    ∙ ready in
     let at : hart_lets_pass h f harts i ≡ true = all_below-at (length harts) i (hart_lets_pass h f harts) all lt in
     let other : (i == h) ≡ false = ne_eqb i h ne in
     sym (ap (λ b. b || (kept_at harts i).halted || is_in f.heard i) other ∙ ap (λ b. false || b || is_in f.heard i) running) ∙ at
@@ -77,7 +58,8 @@ ready-heard harts h i f flying ready lt ne running =
 module _ (maps : List (List Perm)) (harts : List Kept) (h : ℕ) (c : Change) (f : Flight) (keeps : Keeps maps harts)
     (flying : (kept_at harts h).flight ≡ Some f) (ready : is_ready h harts ≡ true) (inside : IsInside c f) where
   -- the caller's spans agree with the changed maps but for the words of its call
-  own_agrees : (d : ℕ) (own : Option Flight) (s : Span) → own ≡ Some f → AgreesWithMap (map_of maps d) own s → AgreesWithMap (map_of (changed c maps) d) own s
+  own_agrees : (d : ℕ) (own : Option Flight) (s : Span) → own ≡ Some f → AgreesWithMap (map_of maps d) own s
+      → AgreesWithMap (map_of (changed c maps) d) own s
   own_agrees d own s e a = record {
     at = λ word in_span spared.
         let out : covers f.first f.count word ≡ false = sym (ap (λ (o : Option Flight). is_spared o word) e) ∙ spared in
@@ -89,12 +71,15 @@ module _ (maps : List (List Perm)) (harts : List Kept) (h : ℕ) (c : Change) (f
   own_agrees_in (Some d) own s e a = own_agrees d own s e a
 
   -- those of a hart that keeps no span of the range agree as before
-  clear_agrees : (d : ℕ) (own : Option Flight) (s : Span) → AgreesWithMap (map_of maps d) own s → meets s f.first f.count ≡ false → AgreesWithMap (map_of (changed c maps) d) own s
+  clear_agrees : (d : ℕ) (own : Option Flight) (s : Span) → AgreesWithMap (map_of maps d) own s → meets s f.first f.count ≡ false
+      → AgreesWithMap (map_of (changed c maps) d) own s
   clear_agrees d own s a apart = record {
-    at = λ word in_span spared. changed-outside c maps d word (outside c f word inside (outside_range s f.first f.count word apart in_span)) ∙ a.at word in_span spared;
+    at = λ word in_span spared. changed-outside c maps d word (outside c f word inside (outside_range s f.first f.count word apart in_span))
+        ∙ a.at word in_span spared;
   }
 
-  clear_agrees_in : (d : Option ℕ) (own : Option Flight) (s : Span) → AgreesIn maps own d s → meets s f.first f.count ≡ false → AgreesIn (changed c maps) own d s
+  clear_agrees_in : (d : Option ℕ) (own : Option Flight) (s : Span) → AgreesIn maps own d s → meets s f.first f.count ≡ false
+      → AgreesIn (changed c maps) own d s
   clear_agrees_in None own s a apart = a
   clear_agrees_in (Some d) own s a apart = clear_agrees d own s a apart
 
@@ -103,11 +88,13 @@ module _ (maps : List (List Perm)) (harts : List Kept) (h : ℕ) (c : Change) (f
       let F : Option Flight → Type 0 = λ o. IfSome o (HasDropped i (kept_at harts i).cache) in
       subst F flying (keeps.dropped i h running (λ e. ne (sym e)))
 
-  agrees_there : (i : ℕ) → (kept_at harts i).halted ≡ false → (i ≡ h) ⊎ (i ≢ h) → (i < length harts) ⊎ (length harts ≤ i) → AreCurrent (changed c maps) (kept_at harts i)
+  agrees_there : (i : ℕ) → (kept_at harts i).halted ≡ false → (i ≡ h) ⊎ (i ≢ h) → (i < length harts) ⊎ (length harts ≤ i)
+      → AreCurrent (changed c maps) (kept_at harts i)
   agrees_there i running (inl e) lt =
       let k = kept_at harts i in
       let flown : k.flight ≡ Some f = ap (λ n. (kept_at harts n).flight) e ∙ flying in
-      each_weaker (λ d s a. own_agrees d k.flight s flown a) (λ s a. own_agrees_in k.domain k.flight s flown a) k.cache (keeps.agree i running)
+      each_weaker (λ d s a. own_agrees d k.flight s flown a) (λ s a. own_agrees_in k.domain k.flight s flown a) k.cache
+      (keeps.agree i running)
   agrees_there i running (inr ne) (inl lt) =
       let k = kept_at harts i in
       let heard : is_in f.heard i ≡ true = ready-heard harts h i f flying ready lt ne running in

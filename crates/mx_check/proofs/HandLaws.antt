@@ -14,19 +14,23 @@ use Rattle.mx_check.specs.Harts.{Kept, at_hart, kept_at}
 use Rattle.mx_check.specs.Looks.{decided, decided_at, decided_by, found, hits, is_forbidden, looked_at_address, looked_at}
 
 -- a place answers
-hit-checked : (most domain word : ℕ) (s : Span) (barred : Bool) (c : Cache) (o : Option Span) → found_in_place c.places 0 word ≡ o → option_map (λ s. s.perm) o ≡ Some P.ExecuteRead →
+hit-checked : (most domain word : ℕ) (s : Span) (barred : Bool) (c : Cache) (o : Option Span) → found_in_place c.places 0 word ≡ o
+    → option_map (λ s. s.perm) o ≡ Some P.ExecuteRead →
     checked most 0 domain word s barred c ≡ with_place_hit c
 hit-checked most domain word s barred c None e q = absurd (let z : ⊥ = cc in z)
 hit-checked most domain word s barred c (Some t) e q = ap (λ (o : Option Span). checked_at most 0 domain word s barred o c) e
 
-hit-decided : (c : Cache) (domain word : ℕ) (s : Span) (o : Option Span) → found_in_place c.places 0 word ≡ o → option_map (λ s. s.perm) o ≡ Some P.ExecuteRead →
+hit-decided : (c : Cache) (domain word : ℕ) (s : Span) (o : Option Span) → found_in_place c.places 0 word ≡ o
+    → option_map (λ s. s.perm) o ≡ Some P.ExecuteRead →
     allows (decided_by (found 0 domain word c) s) Execute ≡ true
 hit-decided c domain word s None e q = absurd (let z : ⊥ = cc in z)
 hit-decided c domain word s (Some t) e q =
     let right : t.perm ≡ P.ExecuteRead = cc in
-    ap (λ (o : Option Span). allows (decided_by (option_or o (found_kept c.kept domain word)) s) Execute) e ∙ ap (λ (p : Perm). allows p Execute) right
+    ap (λ (o : Option Span). allows (decided_by (option_or o (found_kept c.kept domain word)) s) Execute) e
+    ∙ ap (λ (p : Perm). allows p Execute) right
 
-module _ (most : ℕ) (kind : Kind) (m : List Perm) (h domain address : ℕ) (harts : List Kept) (hand : IsAtHand (length m) (kept_at harts h).cache address) where
+module _ (most : ℕ) (kind : Kind) (m : List Perm) (h domain address : ℕ) (harts : List Kept)
+    (hand : IsAtHand (length m) (kept_at harts h).cache address) where
   -- the harts after the check
   pub looked-hit : at_hart h (hits domain) harts ≡ looked_at_address most kind m h 0 domain address harts
   looked-hit =

@@ -1,5 +1,6 @@
 -- A list of harts in the first places of an array: what a read and a write of one of them say of the list.
-use Rattle.std.proofs.Common.{◌≡◌, ℕ, zero, suc, ◌<◌, ◌≤◌, List, [], ◌∷◌, length, get_or, set, take, replicate, refl, sym, ap, ◌∙◌, arith, length-take, get_or-take}
+use Rattle.std.proofs.Common.{◌≡◌, ℕ, zero, suc, ◌<◌, ◌≤◌, List, [], ◌∷◌, length, get_or, set, take, replicate, refl, sym, ap, ◌∙◌, arith}
+use Rattle.std.proofs.Common.{length-take, get_or-take}
 use Rattle.std.proofs.lemmas.List.{get_or_default}
 use Rattle.std.proofs.SliceLists.{take-set}
 use Rattle.mx_words.specs.Counting.{list_below}
@@ -12,7 +13,8 @@ module _ (n : ℕ) (parts : List Kept) (harts : List Kept) (h : ℕ) (d : Kept) 
       let long : h < length (take n parts) = omega (arith, ap length view) in
       let low : h < n = omega (arith, length-take n parts) in
       let inside : h < length parts = omega (arith, length-take n parts) in
-      get_or_default parts h d nothing_kept inside ∙ sym (get_or-take n parts h nothing_kept low) ∙ ap (λ (hs : List Kept). get_or hs h nothing_kept) view
+      get_or_default parts h d nothing_kept inside ∙ sym (get_or-take n parts h nothing_kept low)
+      ∙ ap (λ (hs : List Kept). get_or hs h nothing_kept) view
 
   -- a part that is written is the hart's step
   pub hart_written : (step : Kept → Kept) (k : Kept) → k ≡ step (get_or parts h d) → take n (set parts h k) ≡ at_hart h step harts

@@ -1,5 +1,6 @@
 -- Coherence and hearing: a hart drops its spans on a call's range first, and counts as having heard it then.
-use Rattle.std.proofs.Common.{◌≡◌, ◌≢◌, ℕ, zero, suc, ◌<◌, ◌≤◌, ◌⊎◌, inl, inr, ◌==◌, Bool, true, false, cond, List, length, Option, Some, None, refl, sym, ap, subst, ◌∙◌, arith, get_or-set_same, get_or-set_other, length-set, eq-eqb}
+use Rattle.std.proofs.Common.{◌≡◌, ◌≢◌, ℕ, zero, suc, ◌<◌, ◌≤◌, ◌⊎◌, inl, inr, ◌==◌, Bool, true, false, cond, List, length, Option, Some}
+use Rattle.std.proofs.Common.{None, refl, sym, ap, subst, ◌∙◌, arith, get_or-set_same, get_or-set_other, length-set, eq-eqb}
 use Rattle.std.specs.Prelude.{IfSome}
 use Rattle.std.specs.Option.{option_map}
 use Rattle.std.proofs.lemmas.Bool.{cases_eq, cases_lt, ne_eqb}
@@ -9,13 +10,14 @@ use Rattle.mx_words.specs.declared.perm.Span.{Span}
 use Rattle.mx_words.specs.Caches.{without_range}
 use Rattle.mx_check.specs.declared.flight.Flight.{Flight}
 use Rattle.mx_words.specs.Hearing.{is_in}
+use Rattle.mx_words.specs.KeptSpans.{IsClear}
 use Rattle.mx_check.specs.Harts.{Kept, nothing_kept, kept_at, at_hart, marked, heard_by, drops_range}
 use Rattle.mx_check.specs.Calls.{unheard_of, unheard, hears_range, hears_one, hears_first, hears}
 use Rattle.mx_check.specs.Flights.{AreHearers, IsHeardByOthers}
-use Rattle.mx_check.specs.Coherence.{AgreesWithMap, IsClear, HasDropped, Keeps}
+use Rattle.mx_check.specs.Coherence.{AgreesWithMap, HasDropped, Keeps}
 use Rattle.mx_check.specs.Conditions.{HasHeardAll, SameButCaches}
 use Rattle.mx_check.proofs.LookLaws.{length-at_hart, kept_at-same, kept_at-other}
-use Rattle.mx_check.proofs.SpanLaws.{each_clear}
+use Rattle.mx_words.proofs.SpanLaws.{each_clear}
 use Rattle.mx_check.proofs.KeepLaws.{keeps_step, current_weaker, drop-keeps}
 
 -- a fact of the value that an option is known to hold
@@ -33,7 +35,8 @@ marked-same : (h : ℕ) (f : Flight) → h < length f.heard → is_in (marked h 
 marked-same h f lt = get_or-set_same f.heard h true false lt
 
 -- the exemption of a call is the same whoever has heard it
-marked-agrees : (h : ℕ) (own : Option Flight) (m : List Perm) (s : Span) → AgreesWithMap m own s → AgreesWithMap m (option_map (marked h) own) s
+marked-agrees : (h : ℕ) (own : Option Flight) (m : List Perm) (s : Span) → AgreesWithMap m own s
+    → AgreesWithMap m (option_map (marked h) own) s
 marked-agrees h None m s a = a
 marked-agrees h (Some f) m s a = record { at = λ word inside spared. a.at word inside spared }
 
@@ -44,18 +47,20 @@ marked-others n i h f there apart others j hit = by (cases_eq j h)
     by (inl e) = (subst (λ k. k < n) (sym e) there, λ x. apart (sym e ∙ x))
     by (inr ne) = others j (sym (marked-other h j f ne) ∙ hit)
 
-marked-hearers : (n i h : ℕ) (own : Option Flight) → h < n → h ≢ i → IfSome own (AreHearers n i) → IfSome (option_map (marked h) own) (AreHearers n i)
+marked-hearers : (n i h : ℕ) (own : Option Flight) → h < n → h ≢ i → IfSome own (AreHearers n i)
+    → IfSome (option_map (marked h) own) (AreHearers n i)
 marked-hearers n i h None there apart p = tt
 marked-hearers n i h (Some f) there apart p =
     record { places = length-set f.heard h true ∙ p.places; others = marked-others n i h f there apart p.others }
 
 -- hart h has heard the call of hart i, of whose range it keeps no span
-module _ (maps : List (List Perm)) (harts : List Kept) (h i : ℕ) (f : Flight) (keeps : Keeps maps harts) (hearing : h < length harts) (there : i < length harts)
+module _ (maps : List (List Perm)) (harts : List Kept) (h i : ℕ) (f : Flight) (keeps : Keeps maps harts) (hearing : h < length harts)
+    (there : i < length harts)
     (apart : i ≢ h) (flying : (kept_at harts i).flight ≡ Some f)
-    (clear : (kept_at harts h).halted ≡ false → IsClear f.first f.count (kept_at harts h).cache) where
+    (clear : (kept_at harts h).halted ≡ false → IsClear (f.first, f.count) (kept_at harts h).cache) where
   others : (j : ℕ) → (kept_at harts j).halted ≡ false → j ≢ i → (j ≡ h) ⊎ (j ≢ h) → HasDropped j (kept_at harts j).cache (marked h f)
   others j running other (inl e) hit =
-      subst (λ (n : ℕ). (kept_at harts n).halted ≡ false → IsClear f.first f.count (kept_at harts n).cache) (sym e) clear running
+      subst (λ (n : ℕ). (kept_at harts n).halted ≡ false → IsClear (f.first, f.count) (kept_at harts n).cache) (sym e) clear running
   others j running other (inr ne) hit =
       some_is (HasDropped j (kept_at harts j).cache) (kept_at harts i).flight f flying (keeps.dropped j i running (λ e. other (sym e)))
       (sym (marked-other h j f ne) ∙ hit)
@@ -65,9 +70,11 @@ module _ (maps : List (List Perm)) (harts : List Kept) (h i : ℕ) (f : Flight) 
       let k = kept_at harts i in
       let flown : option_map (marked h) k.flight ≡ Some (marked h f) = ap (option_map (marked h)) flying in
       keeps_step maps harts i (heard_by h) keeps there
-      (λ running. current_weaker maps k.flight (option_map (marked h) k.flight) k.domain k.cache (marked-agrees h k.flight) (keeps.agree i running))
+      (λ running. current_weaker maps k.flight (option_map (marked h) k.flight) k.domain k.cache (marked-agrees h k.flight)
+      (keeps.agree i running))
       (λ j running other. keeps.dropped i j running other)
-      (λ j running other. some_has (HasDropped j (kept_at harts j).cache) (option_map (marked h) k.flight) (marked h f) flown (others j running other (cases_eq j h)))
+      (λ j running other. some_has (HasDropped j (kept_at harts j).cache) (option_map (marked h) k.flight) (marked h f) flown
+      (others j running other (cases_eq j h)))
       (marked-hearers (length harts) i h k.flight hearing (λ e. apart (sym e)) (keeps.hearers i))
 
 -- what an unheard range of a call says of the call
@@ -83,12 +90,19 @@ unheard_of-some h (Some f) r e = by (is_in f.heard h) e
   where
     by : (b : Bool) → cond {A = Option (ℕ × ℕ)} b None (Some (f.first, f.count)) ≡ Some r → IsUnheard h (Some f) r
     by true e = cc
-    by false e = let same : (f.first, f.count) ≡ r = cc in record { flight = f; flying = refl; first = sym (ap (λ p. p.0) same); count = sym (ap (λ p. p.1) same) }
+    by false e = let same : (f.first, f.count) ≡ r = cc in record {
+      flight = f;
+      flying = refl;
+      first = sym (ap (λ p. p.0) same);
+      count =
+          sym (ap (λ p. p.1) same);
+    }
 
 unheard-some : (h i : ℕ) (harts : List Kept) (r : ℕ × ℕ) → unheard h i harts ≡ Some r → (i ≢ h) × IsUnheard h (kept_at harts i).flight r
 unheard-some h i harts r e = by (i == h) refl e
   where
-    by : (b : Bool) → (i == h) ≡ b → cond b None (unheard_of h (kept_at harts i).flight) ≡ Some r → (i ≢ h) × IsUnheard h (kept_at harts i).flight r
+    by : (b : Bool) → (i == h) ≡ b → cond b None (unheard_of h (kept_at harts i).flight) ≡ Some r
+        → (i ≢ h) × IsUnheard h (kept_at harts i).flight r
     by true same e = cc
     by false same e = (eqb_false same, unheard_of-some h (kept_at harts i).flight r e)
       where
@@ -112,8 +126,14 @@ module _ (harts : List Kept) (h i : ℕ) (there : h < length harts) where
   own_unheard (Some r) e =
       let apart = (unheard-some h i harts r e).0 in
       let now : kept_at (hears_range h i (Some r) harts) h ≡ drops_range r.0 r.1 (kept_at harts h) =
-      kept_at-other (at_hart h (drops_range r.0 r.1) harts) i (heard_by h) h (λ x. apart (sym x)) ∙ kept_at-same harts h (drops_range r.0 r.1) there in
-      record { halted = ap (λ (k : Kept). k.halted) now; domain = ap (λ (k : Kept). k.domain) now; flight = ap (λ (k : Kept). k.flight) now }
+      kept_at-other (at_hart h (drops_range r.0 r.1) harts) i (heard_by h) h (λ x. apart (sym x))
+      ∙ kept_at-same harts h (drops_range r.0 r.1) there in
+      record {
+        halted = ap (λ (k : Kept). k.halted) now;
+        domain = ap (λ (k : Kept). k.domain) now;
+        flight =
+            ap (λ (k : Kept). k.flight) now;
+      }
 
   pub own_one : SameButCaches (kept_at (hears_one h i harts) h) (kept_at harts h)
   own_one = own_unheard (unheard h i harts) refl
@@ -131,7 +151,8 @@ pub hears_own : (harts : List Kept) (h : ℕ) → h < length harts → SameButCa
 hears_own harts h there = own_first harts h (length harts) there
 
 -- hearing one call keeps both facts
-module _ (maps : List (List Perm)) (harts : List Kept) (h i : ℕ) (keeps : Keeps maps harts) (there : h < length harts) (other : i < length harts) where
+module _ (maps : List (List Perm)) (harts : List Kept) (h i : ℕ) (keeps : Keeps maps harts) (there : h < length harts)
+    (other : i < length harts) where
   hears_some : (r : ℕ × ℕ) → unheard h i harts ≡ Some r → Keeps maps (hears_range h i (Some r) harts)
   hears_some r e =
       let apart = (unheard-some h i harts r e).0 in
@@ -139,12 +160,14 @@ module _ (maps : List (List Perm)) (harts : List Kept) (h i : ℕ) (keeps : Keep
       let dropped = at_hart h (drops_range r.0 r.1) harts in
       let k = kept_at harts h in
       let own = kept_at-same harts h (drops_range r.0 r.1) there in
-      let flying : (kept_at dropped i).flight ≡ Some n.flight = ap (λ (k : Kept). k.flight) (kept_at-other harts h (drops_range r.0 r.1) i apart) ∙ n.flying in
-      let clear : (kept_at dropped h).halted ≡ false → IsClear n.flight.first n.flight.count (kept_at dropped h).cache =
-      subst (λ (x : Kept). x.halted ≡ false → IsClear n.flight.first n.flight.count x.cache) (sym own)
-      (λ running. subst (λ (a : ℕ). IsClear a n.flight.count (without_range r.0 r.1 k.cache)) n.first
-      (subst (λ (a : ℕ). IsClear r.0 a (without_range r.0 r.1 k.cache)) n.count (each_clear r.0 r.1 k.cache (keeps.agree h running)))) in
-      mark-keeps maps dropped h i n.flight (drop-keeps maps harts h keeps there r.0 r.1) (omega (arith, length-at_hart harts h (drops_range r.0 r.1)))
+      let flying : (kept_at dropped i).flight ≡ Some n.flight =
+      ap (λ (k : Kept). k.flight) (kept_at-other harts h (drops_range r.0 r.1) i apart) ∙ n.flying in
+      let clear : (kept_at dropped h).halted ≡ false → IsClear (n.flight.first, n.flight.count) (kept_at dropped h).cache =
+      subst (λ (x : Kept). x.halted ≡ false → IsClear (n.flight.first, n.flight.count) x.cache) (sym own)
+      (λ running. subst (λ (a : ℕ). IsClear (a, n.flight.count) (without_range r.0 r.1 k.cache)) n.first
+      (subst (λ (a : ℕ). IsClear (r.0, a) (without_range r.0 r.1 k.cache)) n.count (each_clear r.0 r.1 k.cache (keeps.agree h running)))) in
+      mark-keeps maps dropped h i n.flight (drop-keeps maps harts h keeps there r.0 r.1)
+      (omega (arith, length-at_hart harts h (drops_range r.0 r.1)))
       (omega (arith, length-at_hart harts h (drops_range r.0 r.1))) apart flying clear
 
   by_unheard : (o : Option (ℕ × ℕ)) → unheard h i harts ≡ o → Keeps maps (hears_range h i o harts)
@@ -155,7 +178,8 @@ module _ (maps : List (List Perm)) (harts : List Kept) (h i : ℕ) (keeps : Keep
   hears_one-keeps = by_unheard (unheard h i harts) refl
 
 -- and so does hearing several
-pub hears_first-keeps : (maps : List (List Perm)) (harts : List Kept) (h n : ℕ) → Keeps maps harts → h < length harts → n ≤ length harts → Keeps maps (hears_first h n harts)
+pub hears_first-keeps : (maps : List (List Perm)) (harts : List Kept) (h n : ℕ) → Keeps maps harts → h < length harts → n ≤ length harts
+    → Keeps maps (hears_first h n harts)
 hears_first-keeps maps harts h zero keeps there most = keeps
 hears_first-keeps maps harts h (suc n) keeps there most =
     hears_one-keeps maps (hears_first h n harts) h n (hears_first-keeps maps harts h n keeps there (omega arith))
@@ -191,12 +215,15 @@ heard_after h (Some f) e = by (is_in f.heard h) refl e
     by true is e = is
     by false is e = cc
 
-heard_marked : (n i h : ℕ) (o : Option Flight) → h < 4 → IfSome o (AreHearers n i) → IfSome (option_map (marked h) o) (λ f. is_in f.heard h ≡ true)
+heard_marked : (n i h : ℕ) (o : Option Flight) → h < 4 → IfSome o (AreHearers n i)
+    → IfSome (option_map (marked h) o) (λ f. is_in f.heard h ≡ true)
 heard_marked n i h None lt p = tt
 heard_marked n i h (Some f) lt p = marked-same h f (omega (arith, p.places))
 
-module _ (maps : List (List Perm)) (harts : List Kept) (h n : ℕ) (keeps : Keeps maps harts) (there : h < length harts) (other : n < length harts) (apart : n ≢ h) where
-  heard_unheard : (o : Option (ℕ × ℕ)) → unheard h n harts ≡ o → IfSome (kept_at (hears_range h n o harts) n).flight (λ f. is_in f.heard h ≡ true)
+module _ (maps : List (List Perm)) (harts : List Kept) (h n : ℕ) (keeps : Keeps maps harts) (there : h < length harts)
+    (other : n < length harts) (apart : n ≢ h) where
+  heard_unheard : (o : Option (ℕ × ℕ)) → unheard h n harts ≡ o
+      → IfSome (kept_at (hears_range h n o harts) n).flight (λ f. is_in f.heard h ≡ true)
   heard_unheard None e =
       let miss : (n == h) ≡ false = ne_eqb n h apart in
       heard_after h (kept_at harts n).flight (sym (ap (λ b. cond b None (unheard_of h (kept_at harts n).flight)) miss) ∙ e)
@@ -213,7 +240,8 @@ module _ (maps : List (List Perm)) (harts : List Kept) (h n : ℕ) (keeps : Keep
   heard_one = heard_unheard (unheard h n harts) refl
 
 module _ (maps : List (List Perm)) (harts : List Kept) (h : ℕ) (keeps : Keeps maps harts) (there : h < length harts) where
-  heard_first : (n i : ℕ) → n ≤ length harts → i < n → i ≢ h → IfSome (kept_at (hears_first h n harts) i).flight (λ f. is_in f.heard h ≡ true)
+  heard_first : (n i : ℕ) → n ≤ length harts → i < n → i ≢ h → IfSome (kept_at (hears_first h n harts) i).flight (λ f.
+      is_in f.heard h ≡ true)
   heard_first zero i most lt ne = absurd (omega arith)
   heard_first (suc n) i most lt ne = by (heard_first n i (omega arith)) (cases_eq i n)
     where
@@ -229,13 +257,16 @@ module _ (maps : List (List Perm)) (harts : List Kept) (h : ℕ) (keeps : Keeps 
           (heard_one maps (hears_first h n harts) h n kept (omega (arith, long)) (omega (arith, long)) apart)
       by rest (inr other) =
           subst (λ (o : Option Flight). IfSome o (λ f. is_in f.heard h ≡ true))
-          (sym (hears_range-flight (hears_first h n harts) h n (omega (arith, long)) (omega (arith, long)) (unheard h n (hears_first h n harts)) i other))
+          (sym (hears_range-flight (hears_first h n harts) h n (omega (arith, long)) (omega (arith, long))
+          (unheard h n (hears_first h n harts)) i other))
           (rest (omega arith) ne)
 
-  heard_there : (i : ℕ) → i ≢ h → (i < length harts) ⊎ (length harts ≤ i) → IfSome (kept_at (hears h harts) i).flight (λ f. is_in f.heard h ≡ true)
+  heard_there : (i : ℕ) → i ≢ h → (i < length harts) ⊎ (length harts ≤ i)
+      → IfSome (kept_at (hears h harts) i).flight (λ f. is_in f.heard h ≡ true)
   heard_there i ne (inl lt) = heard_first (length harts) i (omega arith) lt ne
   heard_there i ne (inr le) =
-      let past : kept_at (hears h harts) i ≡ nothing_kept = get_or_past (hears h harts) i nothing_kept (omega (arith, length-hears_first h (length harts) harts)) in
+      let past : kept_at (hears h harts) i ≡ nothing_kept = get_or_past (hears h harts) i nothing_kept
+      (omega (arith, length-hears_first h (length harts) harts)) in
       subst (λ (k : Kept). IfSome k.flight (λ f. is_in f.heard h ≡ true)) (sym past) tt
 
   pub heard_all : HasHeardAll h (hears h harts)

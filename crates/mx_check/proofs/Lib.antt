@@ -1,6 +1,5 @@
 pub mod HartLaws
 pub mod LookLaws
-pub mod SpanLaws
 pub mod KeepLaws
 pub mod HearLaws
 pub mod ChangeLaws

@@ -1,5 +1,6 @@
 -- Coherence at the start: empty caches keep both facts, whoever has heard what.
-use Rattle.std.proofs.Common.{◌≡◌, ℕ, ◌<◌, ◌≤◌, ◌⊎◌, inl, inr, Bool, true, false, cond, List, [], ◌∷◌, length, Option, Some, None, refl, sym, ap, subst, arith}
+use Rattle.std.proofs.Common.{◌≡◌, ℕ, ◌<◌, ◌≤◌, ◌⊎◌, inl, inr, Bool, true, false, cond, List, [], ◌∷◌, length, Option, Some, None, refl}
+use Rattle.std.proofs.Common.{sym, ap, subst, arith}
 use Rattle.std.specs.Prelude.{All, IfSome}
 use Rattle.std.proofs.lemmas.Bool.{cases_lt, eqb-true}
 use Rattle.std.proofs.lemmas.List.{get_or_past, get_or-replicate, length-replicate}
@@ -11,11 +12,12 @@ use Rattle.mx_table.specs.Tables.{map_of}
 use Rattle.mx_check.specs.declared.flight.Flight.{Flight}
 use Rattle.mx_check.specs.Flights.{is_of, flight_of, IsSet, IsHeardByOthers, AreHearers}
 use Rattle.mx_words.specs.Hearing.{is_in}
+use Rattle.mx_words.specs.KeptSpans.{EachSpan, IsClear}
 use Rattle.mx_check.specs.Harts.{Kept, new_hart, nothing_kept, kept_at}
 use Rattle.mx_check.specs.Conditions.{MayLook, IsResumable}
 use Rattle.mx_check.specs.Calls.{new_harts, waiting_hart, waiting_harts}
-use Rattle.mx_check.specs.Coherence.{EachSpan, AgreesWithMap, AgreesIn, IsClear, HasDropped, Keeps}
-use Rattle.mx_check.proofs.SpanLaws.{each_none}
+use Rattle.mx_check.specs.Coherence.{AgreesWithMap, AgreesIn, HasDropped, Keeps}
+use Rattle.mx_words.proofs.SpanLaws.{each_none, no-spans}
 
 -- harts whose caches are empty
 module _ (maps : List (List Perm)) (harts : List Kept) (empty : (i : ℕ) → (kept_at harts i).cache ≡ no_cache)
@@ -23,14 +25,15 @@ module _ (maps : List (List Perm)) (harts : List Kept) (empty : (i : ℕ) → (k
   dropped_from : (h : ℕ) (o : Option Flight) → IfSome o (HasDropped h (kept_at harts h).cache)
   dropped_from h None = tt
   dropped_from h (Some f) =
-      λ hit. subst (λ c. IsClear f.first f.count c) (sym (empty h)) (each_none (λ d s. meets s f.first f.count ≡ false) (λ s. meets s f.first f.count ≡ false))
+      λ hit. subst (λ c. IsClear (f.first, f.count) c) (sym (empty h))
+      (each_none (λ d s. meets s f.first f.count ≡ false) (λ s. meets s f.first f.count ≡ false) no_cache no-spans)
 
   pub empty-keeps : Keeps maps harts
   empty-keeps = record {
     agree = λ h running.
         let k = kept_at harts h in
         subst (λ c. EachSpan (λ d s. AgreesWithMap (map_of maps d) k.flight s) (AgreesIn maps k.flight k.domain) c) (sym (empty h))
-        (each_none (λ d s. AgreesWithMap (map_of maps d) k.flight s) (AgreesIn maps k.flight k.domain));
+        (each_none (λ d s. AgreesWithMap (map_of maps d) k.flight s) (AgreesIn maps k.flight k.domain) no_cache no-spans);
     dropped = λ h i running apart. dropped_from h (kept_at harts i).flight;
     hearers = hearers;
     few = few;
@@ -50,7 +53,8 @@ module _ (maps : List (List Perm)) (n : ℕ) (few : n ≤ 4) where
       (omega (arith, length-replicate n new_hart))
 
 -- who has heard the call of a hart in a list of calls
-flight_of-hearers : (n words h : ℕ) (flights : List Flight) → All IsSet flights → All (IsResumable n words) flights → IfSome (flight_of flights h) (AreHearers n h)
+flight_of-hearers : (n words h : ℕ) (flights : List Flight) → All IsSet flights → All (IsResumable n words) flights
+    → IfSome (flight_of flights h) (AreHearers n h)
 flight_of-hearers n words h [] sets all = tt
 flight_of-hearers n words h (f ∷ fs) sets all =
     by (flight_of-hearers n words h fs (All-tail IsSet f fs sets) (All-tail (IsResumable n words) f fs all)) (is_of h f) refl
@@ -62,14 +66,19 @@ flight_of-hearers n words h (f ∷ fs) sets all =
     }
     by rest false e = rest
 
-module _ (maps : List (List Perm)) (flights : List Flight) (n words : ℕ) (few : n ≤ 4) (sets : All IsSet flights) (all : All (IsResumable n words) flights) where
+module _ (maps : List (List Perm)) (flights : List Flight) (n words : ℕ) (few : n ≤ 4) (sets : All IsSet flights)
+    (all : All (IsResumable n words) flights) where
   as_many : length (waiting_harts flights n) ≡ n
   as_many = length-list_below n (waiting_hart flights)
 
-  waiting_at : (i : ℕ) → (i < n) ⊎ (n ≤ i) → ((kept_at (waiting_harts flights n) i).cache ≡ no_cache) × IfSome (kept_at (waiting_harts flights n) i).flight (AreHearers n i)
+  waiting_at : (i : ℕ) → (i < n) ⊎ (n ≤ i) → ((kept_at (waiting_harts flights n) i).cache ≡ no_cache)
+      × IfSome (kept_at (waiting_harts flights n) i).flight (AreHearers n i)
   waiting_at i (inl lt) =
-      let e = list_below-at n i (waiting_hart flights) nothing_kept lt in
-      (ap (λ (k : Kept). k.cache) e, subst (λ (k : Kept). IfSome k.flight (AreHearers n i)) (sym e) (flight_of-hearers n words i flights sets all))
+      let e = list_below-at n i (waiting_hart flights) nothing_kept lt in (
+        ap (λ (k : Kept). k.cache) e,
+        subst (λ (k : Kept). IfSome k.flight (AreHearers n i)) (sym e)
+            (flight_of-hearers n words i flights sets all),
+      )
   waiting_at i (inr le) =
       let e = get_or_past (waiting_harts flights n) i nothing_kept (omega (arith, as_many)) in
       (ap (λ (k : Kept). k.cache) e, subst (λ (k : Kept). IfSome k.flight (AreHearers n i)) (sym e) tt)
@@ -83,7 +92,8 @@ module _ (maps : List (List Perm)) (flights : List Flight) (n words : ℕ) (few 
 -- a hart that has done nothing yet may check in any domain
 new_flight : (n i : ℕ) → (i < n) ⊎ (n ≤ i) → (kept_at (new_harts n) i).flight ≡ None
 new_flight n i (inl lt) = ap (λ (k : Kept). k.flight) (get_or-replicate n i new_hart nothing_kept lt)
-new_flight n i (inr le) = ap (λ (k : Kept). k.flight) (get_or_past (new_harts n) i nothing_kept (omega (arith, length-replicate n new_hart)))
+new_flight n i (inr le) = ap (λ (k : Kept). k.flight) (get_or_past (new_harts n) i nothing_kept
+    (omega (arith, length-replicate n new_hart)))
 
 pub new_may : (n h domain : ℕ) → h < n → MayLook h domain (new_harts n)
 new_may n h domain lt =

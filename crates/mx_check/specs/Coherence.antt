@@ -1,8 +1,9 @@
 -- Coherence: what the spans that a checker keeps say of the maps as they are now.
-use Rattle.std.specs.Prelude.{◌≡◌, ◌≢◌, ℕ, ◌≤◌, Bool, true, false, List, All, IfSome, Option, Some, None}
+use Rattle.std.specs.Prelude.{◌≡◌, ◌≢◌, ℕ, ◌≤◌, Bool, true, false, List, IfSome, Option, Some, None}
 use Rattle.mx_words.specs.declared.perm.Perm.{Perm}
 use Rattle.mx_words.specs.declared.perm.Span.{Span}
-use Rattle.mx_words.specs.Caches.{Cache, Entry, covers_word, meets}
+use Rattle.mx_words.specs.Caches.{Cache, covers_word}
+use Rattle.mx_words.specs.KeptSpans.{EachSpan, IsClear}
 use Rattle.mx_words.specs.Limits.{most_harts}
 use Rattle.mx_words.specs.Ranges.{covers}
 use Rattle.mx_words.specs.Rights.{perm_at}
@@ -12,11 +13,6 @@ use Rattle.mx_check.specs.Flights.{AreHearers}
 use Rattle.mx_words.specs.Hearing.{is_in}
 use Rattle.mx_check.specs.Harts.{Kept, kept_at}
 use Rattle.std.specs.Prelude.{length}
-
--- E of each entry of the list, and P of each span in a place
-pub record EachSpan (E : ℕ → Span → Type 0) (P : Span → Type 0) (c : Cache) : Type 0 where
-  pub entries : All (λ (e : Entry). E e.0 e.1) c.kept
-  pub places : All (λ (o : Option Span). IfSome o P) c.places
 
 -- whether a word lies in the range of a hart's own call in flight
 abbrev pub is_spared : Option Flight → ℕ → Bool
@@ -38,14 +34,9 @@ abbrev pub AreCurrent : List (List Perm) → Kept → Type 0
 AreCurrent maps k =
     EachSpan (λ d s. AgreesWithMap (map_of maps d) k.flight s) (AgreesIn maps k.flight k.domain) k.cache
 
--- no span of a hart meets a range
-abbrev pub IsClear : ℕ → ℕ → Cache → Type 0
-IsClear first count c =
-    EachSpan (λ d s. meets s first count ≡ false) (λ s. meets s first count ≡ false) c
-
 -- second fact, of hart h and one call: where h has heard it, no span of h meets its range
 abbrev pub HasDropped : ℕ → Cache → Flight → Type 0
-HasDropped h c f = is_in f.heard h ≡ true → IsClear f.first f.count c
+HasDropped h c f = is_in f.heard h ≡ true → IsClear (f.first, f.count) c
 
 -- what a checker keeps at every moment between its calls
 pub record Keeps (maps : List (List Perm)) (harts : List Kept) : Type 0 where

@@ -4,8 +4,10 @@ ghost use Rattle.std.specs.Option.{option_map};
 ghost use Rattle.mx_words.specs.Caches.{found_in_place};
 ghost use Rattle.mx_words.specs.Limits.{most_harts, most_kept};
 ghost use Rattle.mx_check.specs.Flights.{IsSet};
-ghost use Rattle.mx_check.specs.Harts.{kept_at, at_hart, announced, heard_by, drops_range, finished, leaves_domain, halts, has_heard};
-ghost use Rattle.mx_check.specs.Looks.{found, after_caches, after_walk, hits_all, with_domain, hart_forbids, is_forbidden};
+ghost use Rattle.mx_check.specs.Harts.{kept_at, at_hart, announced, heard_by, drops_range, finished, leaves_domain};
+ghost use Rattle.mx_check.specs.Harts.{halts, has_heard};
+ghost use Rattle.mx_check.specs.Looks.{found, after_caches, after_walk, hits_all, with_domain, hart_forbids};
+ghost use Rattle.mx_check.specs.Looks.{is_forbidden};
 ghost use Rattle.mx_check.specs.Calls.{unheard, hears_one, hears, hart_lets_pass, is_ready, new_harts, waiting_harts};
 
 use crate::part::Part;

@@ -1,9 +1,10 @@
-//! The checker of all accesses: permission tables with a sidecar and a lookaside buffer for each hart before them, kept coherent while
-//! announced calls change rights. A hart that has heard of a call keeps no span of its range, and a call takes effect only where
+//! The checker of all accesses: permission tables with a sidecar and a lookaside buffer for each hart before them, kept
+//! coherent while
+//! announced calls change rights. A hart that has heard of a call keeps no span of its range, and a call takes effect
+//! only where
 //! every other running hart has heard it.
 #![tactic(auto)]
 
-mod cached_tables;
 mod checker;
 mod flight;
 mod harts;

@@ -3,17 +3,19 @@ ghost use Rattle.std.specs.Prelude.{◌≡◌, ◌+◌, ◌-◌, ◌^◌, ◌<�
 ghost use Rattle.std.specs.Option.{option_map};
 ghost use Rattle.mx_words.specs.Caches.{raised, found_in_place, found_kept};
 ghost use Rattle.mx_words.specs.Limits.{most_harts, most_kept};
-ghost use Rattle.mx_check.specs.Harts.{new_hart, nothing_kept, announced, heard_by, drops_range, finished, leaves_domain, halts, has_heard};
-ghost use Rattle.mx_check.specs.Looks.{found, after_caches, after_list, after_walk, hits_all, with_domain, flight_forbids};
+ghost use Rattle.mx_check.specs.Harts.{new_hart, nothing_kept, announced, heard_by, drops_range, finished};
+ghost use Rattle.mx_check.specs.Harts.{leaves_domain, halts, has_heard};
+ghost use Rattle.mx_check.specs.Looks.{found, after_caches, after_list, after_walk, hits_all, with_domain};
+ghost use Rattle.mx_check.specs.Looks.{flight_forbids};
 ghost use Rattle.mx_check.specs.Calls.{unheard_of};
 
 use crate::Flight;
-use mx_lookaside::Lookaside;
-use mx_sidecar::Sidecars;
+use mx_caches::{Lookaside, Sidecars};
 use mx_words::{MOST_HARTS, Perm, Span};
 use std::marker::Model;
 
-/// How many checks of a hart its places answered, how many its lookaside buffer, and how many a walk of the tables. A count that
+/// How many checks of a hart its places answered, how many its lookaside buffer, and how many a walk of the tables. A
+/// count that
 /// stands at 2^64 - 1 stays there.
 #[derive(Clone, Copy, PartialEq, Eq, Debug)]
 pub struct Counts {

@@ -1,5 +1,6 @@
 -- Announced calls: the change lies in the announced range, of which the caller drops its own spans.
-use Rattle.std.proofs.Common.{◌≡◌, ◌≢◌, ℕ, ◌+◌, ◌*◌, ◌<◌, ◌≤◌, ◌⊎◌, inl, inr, Bool, true, false, not, cond, ◌==◌, ◌&&◌, nat_le, List, [], ◌∷◌, length, refl, sym, ap, subst, ◌∙◌, arith, Option, Some, None, unwrap_or, is_none}
+use Rattle.std.proofs.Common.{◌≡◌, ◌≢◌, ℕ, ◌+◌, ◌*◌, ◌<◌, ◌≤◌, ◌⊎◌, inl, inr, Bool, true, false, not, cond, ◌==◌, ◌&&◌, nat_le, List, []}
+use Rattle.std.proofs.Common.{◌∷◌, length, refl, sym, ap, subst, ◌∙◌, arith, Option, Some, None, unwrap_or, is_none}
 use Rattle.std.specs.Prelude.{IfSome}
 use Rattle.std.specs.List.{list_any, range_with_len}
 use Rattle.std.proofs.lemmas.Bool.{and_parts, cases_eq, leb-true, ne_eqb}
@@ -14,7 +15,9 @@ use Rattle.mx_words.proofs.OverlayLaws.{covers_from, covers_in}
 use Rattle.mx_model.specs.declared.values.Call.{Call}
 use Rattle.mx_model.specs.Checks.{arg, call_range, drops}
 use Rattle.mx_model.specs.Reads.{Reads}
-use Rattle.mx_model.specs.Serve.{Served, Service, Grant, RevokeAll, Alloc, Free, alloc_change, alloc_from, alloc_place, allocated, answers, arg_word, arg_range, change_of, changes, code, free_change, freed_count, grant_change, is_word, judged, revoke_change, serve, serve_alloc, serve_free, served_by, service, with_blocks}
+use Rattle.mx_model.specs.Serve.{Served, Service, Grant, RevokeAll, Alloc, Free, alloc_change, alloc_from, alloc_place, allocated, answers}
+use Rattle.mx_model.specs.Serve.{arg_word, arg_range, change_of, changes, code, free_change, freed_count, grant_change, is_word, judged}
+use Rattle.mx_model.specs.Serve.{revoke_change, serve, serve_alloc, serve_free, served_by, service, with_blocks}
 use Rattle.mx_model.specs.State.{Core, Hart, cache_at, hart_at, module_at}
 use Rattle.mx_model.specs.Turn.{call_of}
 use Rattle.mx_model.specs.Valid.{IsValid}
@@ -55,7 +58,8 @@ tells n = by (cases_eq n 3) (cases_eq n 4) (cases_eq n 6) (cases_eq n 7)
         (rw (e3, e4, e6, e7) refl)
 
 -- a part of a range is inside it
-inside-part : (a n first count : ℕ) (given : ℕ → Option Perm) → first ≤ a → a + n ≤ first + count → IsInside (first, count) (change_of (a, n) given)
+inside-part : (a n first count : ℕ) (given : ℕ → Option Perm) → first ≤ a → a + n ≤ first + count
+    → IsInside (first, count) (change_of (a, n) given)
 inside-part a n first count given low high w hit =
     let p = covers_from a n w hit in
     let x = p.0 in
@@ -73,13 +77,15 @@ moved-self c h = record { hart = refl; cache = refl; harts = λ g apart. refl; c
 announced-answers : (c : Core) (h : ℕ) (range : ℕ × ℕ) (a0 : ℕ) → Announced c h range (answers c a0)
 announced-answers c h range a0 = record { core = moved-self c h; change = tt }
 
-announced-judged : (c : Core) (h : ℕ) (range : ℕ × ℕ) (o : Option ℕ) (s : Served) → (o ≡ None → Announced c h range s) → Announced c h range (judged c o s)
+announced-judged : (c : Core) (h : ℕ) (range : ℕ × ℕ) (o : Option ℕ) (s : Served) → (o ≡ None → Announced c h range s)
+    → Announced c h range (judged c o s)
 announced-judged c h range None s q = q refl
 announced-judged c h range (Some n) s q = announced-answers c h range (code n)
 
 -- and after: the caller keeps no span that meets the range
 pub record Drops (c : Core) (h : ℕ) (s : Served) : Type 0 where
-  pub core : Moved c s.core h (hart_at c h) (without_range (call_range c (call_of h (hart_at c h))).0 (call_range c (call_of h (hart_at c h))).1 (cache_at c h))
+  pub core : Moved c s.core h (hart_at c h) (without_range (call_range c (call_of h (hart_at c h))).0
+      (call_range c (call_of h (hart_at c h))).1 (cache_at c h))
   pub change : IfSome s.change (IsInside (call_range c (call_of h (hart_at c h))))
 
 module _ (r : Reads) (c : Core) (h : ℕ) (v : IsValid c) where
@@ -93,7 +99,8 @@ module _ (r : Reads) (c : Core) (h : ℕ) (v : IsValid c) where
   named-range : names_range call.number ≡ true → call_range c call ≡ arg_range c call
   named-range e = ap (λ (b : Bool). cond b (range_words (arg call 0) (arg call 1) c.size) (heap.first, heap.count)) e
 
-  inside-named : names_range call.number ≡ true → (given : ℕ → Option Perm) → IsInside (call_range c call) (change_of (arg_range c call) given)
+  inside-named : names_range call.number ≡ true → (given : ℕ → Option Perm)
+      → IsInside (call_range c call) (change_of (arg_range c call) given)
   inside-named e given w hit = subst (λ (range : ℕ × ℕ). covers range.0 range.1 w ≡ true) (sym (named-range e)) hit
 
   pub announced-named : (s : Service) → (s ≡ Grant) ⊎ (s ≡ RevokeAll) → names_range call.number ≡ true →
@@ -114,7 +121,8 @@ module _ (r : Reads) (c : Core) (h : ℕ) (v : IsValid c) where
   inside-heap : names_range call.number ≡ false → (a n : ℕ) (given : ℕ → Option Perm) → heap.first ≤ a → a + n ≤ heap.first + heap.count →
       IsInside (call_range c call) (change_of (a, n) given)
   inside-heap e a n given low high =
-      subst (λ (range : ℕ × ℕ). IsInside range (change_of (a, n) given)) (sym (heap-range e)) (inside-part a n heap.first heap.count given low high)
+      subst (λ (range : ℕ × ℕ). IsInside range (change_of (a, n) given)) (sym (heap-range e))
+      (inside-part a n heap.first heap.count given low high)
 
   -- the caller's blocks changed
   moved-blocks : (bs : List Area) (ram : List ℕ) → Moved c (with_blocks call bs (record c { ram = ram })) h (hart_at c h) (cache_at c h)
@@ -135,19 +143,22 @@ module _ (r : Reads) (c : Core) (h : ℕ) (v : IsValid c) where
       found-some (alloc_place c call) (λ a. has_room heap bs (arg call 0) a ≡ true)
       (found-passes (has_room heap bs (arg call 0)) (range_with_len heap.first heap.count)) n)
     where
-      done : (first : ℕ) → has_room heap (module_at c call.domain).blocks (arg call 0) first ≡ true → Announced c h (call_range c call) (allocated c call first)
+      done : (first : ℕ) → has_room heap (module_at c call.domain).blocks (arg call 0) first ≡ true
+          → Announced c h (call_range c call) (allocated c call first)
       done first room =
           let n = arg call 0 in
           let p = and_parts (nat_le heap.first first && nat_le (first + n) (heap.first + heap.count))
           (not (list_any (λ (b : Area). overlaps b.first b.count first n) (module_at c call.domain).blocks)) room in
           let q = and_parts (nat_le heap.first first) (nat_le (first + n) (heap.first + heap.count)) p.0 in
           record {
-            core = moved-blocks (with_block (record { first = first; count = n }) (module_at c call.domain).blocks) (cleared_at c.ram (4 * first) (4 * n));
+            core = moved-blocks (with_block (record { first = first; count = n }) (module_at c call.domain).blocks)
+                (cleared_at c.ram (4 * first) (4 * n));
             change = inside-heap named first n (alloc_change first call).given (leb-true heap.first first q.0)
                 (leb-true (first + n) (heap.first + heap.count) q.1);
           }
 
-      by : (o : Option ℕ) → (o ≡ None → has_room heap (module_at c call.domain).blocks (arg call 0) (unwrap_or (alloc_place c call) 0) ≡ true) →
+      by : (o : Option ℕ) → (o ≡ None → has_room heap (module_at c call.domain).blocks (arg call 0) (unwrap_or (alloc_place c call) 0)
+          ≡ true) →
           Announced c h (call_range c call) (alloc_from c call (unwrap_or (alloc_place c call) 0) o)
       by (Some n) q = announced-answers c h (call_range c call) (code n)
       by None q = done (unwrap_or (alloc_place c call) 0) (q refl)
@@ -156,7 +167,8 @@ module _ (r : Reads) (c : Core) (h : ℕ) (v : IsValid c) where
   freed-in = elim (is_word c (arg call 0)) as
       (λ b. IfSome (cond b (block_words (module_at c call.domain).blocks (arg_word call)) None)
       (λ n. (heap.first ≤ arg_word call) × (arg_word call + n ≤ heap.first + heap.count))) [
-        | true ↦ block-in heap.first (heap.first + heap.count) (arg_word call) (module_at c call.domain).blocks (home-at c call.domain v).blocks
+        | true ↦ block-in heap.first (heap.first + heap.count) (arg_word call) (module_at c call.domain).blocks
+            (home-at c call.domain v).blocks
         | false ↦ tt
       ]
 
@@ -173,9 +185,12 @@ module _ (r : Reads) (c : Core) (h : ℕ) (v : IsValid c) where
         change = inside-heap named (arg_word call) (unwrap_or (freed_count c call) 0) (free_change c call).given p.0 p.1;
       })
 
-  pub announced-heap : (s : Service) → (s ≡ Alloc) ⊎ (s ≡ Free) → names_range call.number ≡ false → Announced c h (call_range c call) (served_by s r c call)
-  announced-heap s (inl e) named = subst (λ (k : Service). Announced c h (call_range c call) (served_by k r c call)) (sym e) (announced-alloc named)
-  announced-heap s (inr e) named = subst (λ (k : Service). Announced c h (call_range c call) (served_by k r c call)) (sym e) (announced-free named)
+  pub announced-heap : (s : Service) → (s ≡ Alloc) ⊎ (s ≡ Free) → names_range call.number ≡ false
+      → Announced c h (call_range c call) (served_by s r c call)
+  announced-heap s (inl e) named = subst (λ (k : Service). Announced c h (call_range c call) (served_by k r c call)) (sym e)
+      (announced-alloc named)
+  announced-heap s (inr e) named = subst (λ (k : Service). Announced c h (call_range c call) (served_by k r c call)) (sym e)
+      (announced-free named)
 
   -- the caller drops its own spans on the range
   pub serve-drops : (s : Service) → service call.number ≡ s → is_announced call.number ≡ true → h < length c.caches →
@@ -186,7 +201,10 @@ module _ (r : Reads) (c : Core) (h : ℕ) (v : IsValid c) where
       let range = call_range c call in
       let d = drops h range m.core in
       let is : serve r c call ≡ record m { core = d } =
-      ap (λ (k : Service). cond (is_announced call.number) (record (served_by k r c call) { core = drops h range (served_by k r c call).core })
+      ap (λ (k : Service). cond (is_announced call.number) (record (served_by k r c call) {
+        core =
+            drops h range (served_by k r c call).core;
+      })
       (served_by k r c call)) e
       ∙ ap (λ (b : Bool). cond b (record m { core = d }) m) f in
       let here : Moved m.core d h (hart_at m.core h) (without_range range.0 range.1 (cache_at m.core h)) =

@@ -1,4 +1,5 @@
--- Worked examples: each clause on the small valid state of mx_model, in which hart 0 waits on a grant of words 0 and 1 that hart 1 has heard; the spans
+-- Worked examples: each clause on the small valid state of mx_model, in which hart 0 waits on a grant of words 0 and 1 that hart 1 has
+-- heard; the spans
 -- that a turn keeps, computed; and caches that aren't coherent.
 use Rattle.std.proofs.Common.{◌≡◌, ◌≢◌, ℕ, zero, suc, true, false, [], ◌∷◌, replicate, refl, lit<, arith, Option, Some, None}
 use Rattle.std.specs.Prelude.{IfSome}
@@ -25,7 +26,7 @@ use Rattle.mx_model.proofs.ValidExample.{core, small, small-core, small-flat}
 use Rattle.mx_model.proofs.ValidParts.{valid-hart}
 use Rattle.mx_coherence.specs.Spans.{AgreesIn, AreCurrent}
 use Rattle.mx_coherence.specs.Coherence.{AreWhole, HasDropped, HasEmptyCaches, KeepsNoStaleSpan, flat_coherent}
-use Rattle.mx_coherence.proofs.SpanLaws.{each_none}
+use Rattle.mx_words.proofs.SpanLaws.{each_none}
 use Rattle.mx_coherence.proofs.RunLaws.{coherent-empty, coherent-run, coherent-turn, stale-none, whole-flat}
 
 -- no cache of it keeps a span, so it is coherent, and stays so after a turn
@@ -61,7 +62,15 @@ walking = with_hart 0 walker core
 walker-valid : IsHart 2 2 0 walker
 walker-valid =
     let old = small-core.harts 0 (lit< tt) in
-    record { regs = old.regs; pc = record { aligned = refl; small = lit< tt }; domain = old.domain; few_frames = old.few_frames; frames = tt; status = tt }
+    record {
+      regs = old.regs;
+      pc = record { aligned = refl; small = lit< tt };
+      domain = old.domain;
+      few_frames = old.few_frames;
+      frames =
+          tt;
+      status = tt;
+    }
 
 walking-valid : IsValid walking
 walking-valid = valid-hart core 0 walker small-core walker-valid
@@ -137,15 +146,18 @@ own-range k = let e = ((k.current 0 refl).places 0 None (lit< tt)).at 0 refl in 
 -- nothing is said of a halted hart
 abbrev over : Flat
 over = record small {
-  core = with_cache 1 (cache ((0, span_of 2 3 P.ExecuteRead) ∷ []) [] 0 0 0) (with_hart 1 (record (hart_at core 1) { status = Halted None }) core);
+  core = with_cache 1 (cache ((0, span_of 2 3 P.ExecuteRead) ∷ []) [] 0 0 0)
+      (with_hart 1 (record (hart_at core 1) { status = Halted None }) core);
 }
 
-over-current : (h : ℕ) → is_halted (hart_at over.core h).status ≡ false → AreCurrent (flat_reads over) (hart_at over.core h).domain (cache_at over.core h)
+over-current : (h : ℕ) → is_halted (hart_at over.core h).status ≡ false
+    → AreCurrent (flat_reads over) (hart_at over.core h).domain (cache_at over.core h)
 over-current zero live = each_none (AgreesIn (flat_reads over)) (AgreesIn (flat_reads over) 1) no_cache (small-empty 0)
 over-current (suc zero) live = absurd (let q : ⊥ = cc in q)
 over-current (suc (suc h)) live = absurd (let q : ⊥ = cc in q)
 
-over-dropped : (h g : ℕ) → is_halted (hart_at over.core h).status ≡ false → g ≢ h → HasDropped over.core h (cache_at over.core h) (hart_at over.core g).status
+over-dropped : (h g : ℕ) → is_halted (hart_at over.core h).status ≡ false → g ≢ h
+    → HasDropped over.core h (cache_at over.core h) (hart_at over.core g).status
 over-dropped zero zero live apart = absurd (apart refl)
 over-dropped zero (suc zero) live apart = tt
 over-dropped zero (suc (suc g)) live apart = tt
@@ -173,12 +185,14 @@ kept-current = record {
       (record { at = true-span }) (All-replicate (λ (o : Option Span). IfSome o (AgreesIn (flat_reads small) 1)) 32 None tt);
 }
 
-own-current : (h : ℕ) → is_halted (hart_at core h).status ≡ false → AreCurrent (flat_reads small) (hart_at core h).domain (cache_at (with 0 kept).core h)
+own-current : (h : ℕ) → is_halted (hart_at core h).status ≡ false
+    → AreCurrent (flat_reads small) (hart_at core h).domain (cache_at (with 0 kept).core h)
 own-current zero live = kept-current
 own-current (suc zero) live = each_none (AgreesIn (flat_reads small)) (AgreesIn (flat_reads small) 1) no_cache (small-empty 1)
 own-current (suc (suc h)) live = absurd (let q : ⊥ = cc in q)
 
-own-dropped : (h g : ℕ) → is_halted (hart_at core h).status ≡ false → g ≢ h → HasDropped core h (cache_at (with 0 kept).core h) (hart_at core g).status
+own-dropped : (h g : ℕ) → is_halted (hart_at core h).status ≡ false → g ≢ h
+    → HasDropped core h (cache_at (with 0 kept).core h) (hart_at core g).status
 own-dropped zero zero live apart = absurd (apart refl)
 own-dropped zero (suc zero) live apart = tt
 own-dropped zero (suc (suc g)) live apart = tt
@@ -191,7 +205,10 @@ own-coherent : flat_coherent (with 0 kept)
 own-coherent = record { current = own-current; dropped = own-dropped }
 
 abbrev unheard : Flat
-unheard = record small { core = with_cache 1 kept (with_hart 0 (record (hart_at core 0) { status = Waiting (call_of 0 (hart_at core 0)) nobody }) core) }
+unheard = record small {
+  core = with_cache 1 kept (with_hart 0
+      (record (hart_at core 0) { status = Waiting (call_of 0 (hart_at core 0)) nobody }) core);
+}
 
 unheard-current : (h : ℕ) → is_halted (hart_at unheard.core h).status ≡ false →
     AreCurrent (flat_reads small) (hart_at unheard.core h).domain (cache_at unheard.core h)

@@ -4,12 +4,13 @@ use Rattle.std.specs.Prelude.{IfSome}
 use Rattle.mx_words.specs.declared.perm.Span.{Span}
 use Rattle.mx_words.specs.Caches.{Cache, meets}
 use Rattle.mx_words.specs.Ranges.{covers}
+use Rattle.mx_words.specs.KeptSpans.{IsClear}
 use Rattle.mx_model.specs.Reads.{Change, Reads}
 use Rattle.mx_model.specs.State.{Core}
 use Rattle.mx_model.specs.Turn.{Made}
-use Rattle.mx_coherence.specs.Spans.{AgreesIn, AreCurrent, IsClear}
+use Rattle.mx_coherence.specs.Spans.{AgreesIn, AreCurrent}
 use Rattle.mx_coherence.specs.Coherence.{IsCoherent}
-use Rattle.mx_coherence.proofs.SpanLaws.{each_both, each_weaker, outside_range}
+use Rattle.mx_words.proofs.SpanLaws.{each_both, each_weaker, outside_range}
 
 -- a word lies beside a change, if there is one
 abbrev pub IsBeside : Option Change → ℕ → Type 0

@@ -1,18 +1,20 @@
 -- Coherence through hearing: a hart drops its spans that meet a range, and counts as having heard the call from then on.
-use Rattle.std.proofs.Common.{◌≡◌, ◌≢◌, ℕ, ◌<◌, ◌⊎◌, inl, inr, Bool, true, false, cond, List, [], ◌∷◌, length, refl, sym, ap, subst, ◌∙◌, arith, get_or-set_same, get_or-set_other, Some, None}
+use Rattle.std.proofs.Common.{◌≡◌, ◌≢◌, ℕ, ◌<◌, ◌⊎◌, inl, inr, Bool, true, false, cond, List, [], ◌∷◌, length, refl, sym, ap, subst, ◌∙◌}
+use Rattle.std.proofs.Common.{arith, get_or-set_same, get_or-set_other, Some, None}
 use Rattle.std.specs.Prelude.{fold}
 use Rattle.std.specs.List.{AllByRecursion}
 use Rattle.std.proofs.lemmas.Bool.{cases_eq}
 use Rattle.mx_words.specs.declared.perm.Span.{Span}
 use Rattle.mx_words.specs.Caches.{Cache, no_cache, without_range}
 use Rattle.mx_words.specs.Hearing.{is_in, unheard_range}
+use Rattle.mx_words.specs.KeptSpans.{EachSpan, IsClear}
 use Rattle.mx_model.specs.Checks.{call_range, heard_by, hears, is_halted, unheard_ranges}
 use Rattle.mx_model.specs.Reads.{Reads}
 use Rattle.mx_model.specs.State.{Core, Status, Running, Waiting, Halted, cache_at, hart_at}
 use Rattle.mx_laws.proofs.TurnParts.{there}
-use Rattle.mx_coherence.specs.Spans.{AreCurrent, EachSpan, IsClear}
+use Rattle.mx_coherence.specs.Spans.{AreCurrent}
 use Rattle.mx_coherence.specs.Coherence.{HasDropped, IsCoherent}
-use Rattle.mx_coherence.proofs.SpanLaws.{each_clear, each_without}
+use Rattle.mx_words.proofs.SpanLaws.{each_clear, each_without}
 use Rattle.mx_coherence.proofs.RangeLaws.{other_heard, own_heard, range_of_call}
 use Rattle.mx_coherence.proofs.StepLaws.{dropped-ranges, three}
 
@@ -40,7 +42,8 @@ dropped-heard c h g k Running apart p = tt
 dropped-heard c h g k (Waiting call heard) apart p = λ hit. p (sym (get_or-set_other heard h g true false apart) ∙ hit)
 dropped-heard c h g k (Halted code) apart p = tt
 
-module _ (r : Reads) (c : Core) (h : ℕ) (k : IsCoherent r c) (count : length c.caches ≡ length c.harts) (live : is_halted (hart_at c h).status ≡ false) where
+module _ (r : Reads) (c : Core) (h : ℕ) (k : IsCoherent r c) (count : length c.caches ≡ length c.harts)
+    (live : is_halted (hart_at c h).status ≡ false) where
   inside : h < length c.caches
   inside = let l = there c h live in omega (arith, l)
 
@@ -54,14 +57,16 @@ module _ (r : Reads) (c : Core) (h : ℕ) (k : IsCoherent r c) (count : length c
       AreCurrent r (hart_at (hears h c) g).domain (cache_at (hears h c) g)
   current_at g (inl same) =
       let x = hart_at c h in
-      subst (λ (n : ℕ). is_halted (hart_at (hears h c) n).status ≡ false → AreCurrent r (hart_at (hears h c) n).domain (cache_at (hears h c) n)) (sym same)
+      subst (λ (n : ℕ). is_halted (hart_at (hears h c) n).status ≡ false
+      → AreCurrent r (hart_at (hears h c) n).domain (cache_at (hears h c) n)) (sym same)
       (three (λ y l z. is_halted y.status ≡ false → AreCurrent r y.domain l) (hart_at (hears h c) h) x (cache_at (hears h c) h)
       (fold drop (cache_at c h) (unheard_ranges c h)) x x
       (own_heard c h) own-cache refl
       (λ running. each_fold (unheard_ranges c h) (cache_at c h) (k.current h running)))
   current_at g (inr apart) =
       let x = hart_at c g in
-      three (λ y l z. is_halted y.status ≡ false → AreCurrent r y.domain l) (hart_at (hears h c) g) (record x { status = heard_by h x.status })
+      three (λ y l z. is_halted y.status ≡ false → AreCurrent r y.domain l) (hart_at (hears h c) g)
+      (record x { status = heard_by h x.status })
       (cache_at (hears h c) g) (cache_at c g) x x
       (other_heard c h g apart) (other-cache g apart) refl
       (λ running. k.current g (sym (live-heard h x.status) ∙ running))
@@ -74,7 +79,8 @@ module _ (r : Reads) (c : Core) (h : ℕ) (k : IsCoherent r c) (count : length c
     where
       by : (b : Bool) → is_in heard h ≡ b → IsClear (call_range c call) (fold drop (cache_at c h) (unheard_ranges c h))
       by true f = each_fold (unheard_ranges c h) (cache_at c h) (p f)
-      by false f = range_of_call (λ (range : ℕ × ℕ). IsClear range (fold drop (cache_at c h) (unheard_ranges c h))) c h g (unheard_range h) call heard
+      by false f = range_of_call (λ (range : ℕ × ℕ). IsClear range (fold drop (cache_at c h) (unheard_ranges c h))) c h g (unheard_range h)
+          call heard
           (clear_fold (unheard_ranges c h) (cache_at c h) (k.current h live)) apart e (ap (λ b. cond b None (Some (call_range c call))) f)
   own_dropped g (Halted code) apart e p = tt
 

@@ -1,4 +1,3 @@
-pub mod SpanLaws
 pub mod RangeLaws
 pub mod StepLaws
 pub mod HearLaws

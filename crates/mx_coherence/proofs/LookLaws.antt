@@ -1,5 +1,6 @@
 -- Coherence through a hart's looks at words of RAM in its own domain.
-use Rattle.std.proofs.Common.{◌≡◌, ◌≢◌, ℕ, ◌<◌, false, cond, List, [], ◌∷◌, length, refl, sym, ap, subst, ◌∙◌, arith, length-set, Some, None}
+use Rattle.std.proofs.Common.{◌≡◌, ◌≢◌, ℕ, ◌<◌, false, cond, List, [], ◌∷◌, length, refl, sym, ap, subst, ◌∙◌, arith, length-set, Some}
+use Rattle.std.proofs.Common.{None}
 use Rattle.std.specs.List.{AllByRecursion, list_any}
 use Rattle.mx_words.specs.declared.perm.Span.{Span}
 use Rattle.mx_words.specs.Caches.{Cache, checked, meets}
@@ -10,7 +11,7 @@ use Rattle.mx_model.specs.State.{Core, Status, Running, Waiting, Halted, cache_a
 use Rattle.mx_laws.proofs.TurnParts.{there}
 use Rattle.mx_coherence.specs.Spans.{AgreesIn, AreCurrent}
 use Rattle.mx_coherence.specs.Coherence.{HasDropped, IsCoherent}
-use Rattle.mx_coherence.proofs.SpanLaws.{each_checked}
+use Rattle.mx_words.proofs.SpanLaws.{each_checked}
 use Rattle.mx_coherence.proofs.RangeLaws.{none_passes, range_of_call}
 use Rattle.mx_coherence.proofs.StepLaws.{coherent-moved, moved-cache}
 
@@ -36,14 +37,16 @@ module _ (r : Reads) (c : Core) (h : ℕ) (k : IsCoherent r c) (walks : WalksAgr
 
   current : AreCurrent r (hart_at c h).domain after
   current =
-      each_checked c.buffer l.place l.domain l.word walked (list_any (λ (p : ℕ × ℕ). meets walked p.0 p.1) (heard_ranges c h)) (cache_at c h) (k.current h live)
+      each_checked c.buffer l.place l.domain l.word walked (list_any (λ (p : ℕ × ℕ). meets walked p.0 p.1) (heard_ranges c h))
+      (cache_at c h) (k.current h live)
       (λ s a. subst (λ (d : ℕ). AgreesIn r d s) own.domain a) (λ e. walks.at l.domain l.word own.word)
 
   dropped : (g : ℕ) (s : Status) → g ≢ h → (hart_at c g).status ≡ s → HasDropped c h (cache_at c h) s → HasDropped c h after s
   dropped g Running apart e p = tt
   dropped g (Waiting call heard) apart e p = λ hit.
       let range = call_range c call in
-      each_checked c.buffer l.place l.domain l.word walked (list_any (λ (p : ℕ × ℕ). meets walked p.0 p.1) (heard_ranges c h)) (cache_at c h) (p hit)
+      each_checked c.buffer l.place l.domain l.word walked (list_any (λ (p : ℕ × ℕ). meets walked p.0 p.1) (heard_ranges c h))
+      (cache_at c h) (p hit)
       (λ s a. a)
       (λ barred. range_of_call (λ (p : ℕ × ℕ). meets walked p.0 p.1 ≡ false) c h g (heard_range h) call heard
       (none_passes (λ (p : ℕ × ℕ). meets walked p.0 p.1) (heard_ranges c h) barred) apart e (ap (λ b. cond b (Some range) None) hit))
@@ -58,8 +61,11 @@ module _ (r : Reads) (c : Core) (h : ℕ) (k : IsCoherent r c) (walks : WalksAgr
     among = λ g i running a b apart. k.dropped g i running apart;
   })
 
-pub coherent-looked_all : (r : Reads) (h : ℕ) (looks : List Look) (c : Core) → IsCoherent r c → WalksAgree r c.size → length c.caches ≡ length c.harts →
-    is_halted (hart_at c h).status ≡ false → AllByRecursion (IsLook c.size (hart_at c h).domain) looks → IsCoherent r (looked_all r h looks c)
+pub coherent-looked_all : (r : Reads) (h : ℕ) (looks : List Look) (c : Core) → IsCoherent r c → WalksAgree r c.size
+    → length c.caches ≡ length c.harts →
+    is_halted (hart_at c h).status ≡ false → AllByRecursion (IsLook c.size (hart_at c h).domain) looks
+    → IsCoherent r (looked_all r h looks c)
 coherent-looked_all r h [] c k walks count live own = k
 coherent-looked_all r h (l ∷ ls) c k walks count live own =
-    coherent-looked_all r h ls (looked r h c l) (coherent-looked r c h k walks count live l own.0) walks (length-set c.caches h _ ∙ count) live own.1
+    coherent-looked_all r h ls (looked r h c l) (coherent-looked r c h k walks count live l own.0) walks (length-set c.caches h _ ∙ count)
+    live own.1

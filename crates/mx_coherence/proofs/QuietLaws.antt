@@ -1,5 +1,6 @@
 -- Calls that aren't announced: they change no right, and leave a coherent state with the harts as they were.
-use Rattle.std.proofs.Common.{◌≡◌, ℕ, zero, suc, ◌+◌, ◌-◌, ◌*◌, ◌/◌, ◌%◌, ◌<◌, ◌≤◌, Bool, true, false, not, cond, ◌==◌, ◌||◌, ◌&&◌, nat_lt, nat_le, List, [], ◌∷◌, length, take, refl, arith, Option, Some, None}
+use Rattle.std.proofs.Common.{◌≡◌, ℕ, zero, suc, ◌+◌, ◌-◌, ◌*◌, ◌/◌, ◌%◌, ◌<◌, ◌≤◌, Bool, true, false, not, cond, ◌==◌, ◌||◌, ◌&&◌, nat_lt}
+use Rattle.std.proofs.Common.{nat_le, List, [], ◌∷◌, length, take, refl, arith, Option, Some, None}
 use Rattle.std.proofs.Common.{map as list_map}
 use Rattle.std.specs.List.{AllByRecursion, prefix_len, range_with_len}
 use Rattle.std.proofs.lemmas.Bool.{and_parts, or_parts, ltb-true, ltb-false, not-false}
@@ -12,7 +13,10 @@ use Rattle.mx_model.specs.declared.values.Call.{Call}
 use Rattle.mx_model.specs.declared.values.Gate.{Gate}
 use Rattle.mx_model.specs.Checks.{Look, arg, is_halted, looked_all}
 use Rattle.mx_model.specs.Reads.{Reads}
-use Rattle.mx_model.specs.Serve.{Served, Service, Exit, Write, Grant, RevokeAll, Transfer, Alloc, Free, AddGate, RemoveGate, AddReturnGate, Query, Self, Exchange, Unknown, adds, answers, arg_word, code, exchange_from, exchanged, give_of, is_word, judged, look_of, may_read, no_word, served_by, write_from, write_looks, write_outside, write_words, written_out}
+use Rattle.mx_model.specs.Serve.{Served, Service, Exit, Write, Grant, RevokeAll, Transfer, Alloc, Free, AddGate, RemoveGate, AddReturnGate}
+use Rattle.mx_model.specs.Serve.{Query, Self, Exchange, Unknown, adds, answers, arg_word, code, exchange_from, exchanged, give_of, is_word}
+use Rattle.mx_model.specs.Serve.{judged, look_of, may_read, no_word, served_by, write_from, write_looks, write_outside, write_words}
+use Rattle.mx_model.specs.Serve.{written_out}
 use Rattle.mx_model.specs.State.{Core, hart_at}
 use Rattle.mx_model.specs.Turn.{call_of}
 use Rattle.mx_model.proofs.ListLaws.{all-take}
@@ -45,7 +49,8 @@ below first (suc n) size le = (omega arith, below (first + 1) n size (omega arit
 written-below : (c : Core) (call : Call) → write_outside c call ≡ false → AllByRecursion (λ w. w < c.size) (write_words call)
 written-below c call e = by (nat_lt 0 (arg call 1)) refl e
   where
-    by : (b : Bool) → nat_lt 0 (arg call 1) ≡ b → (b && (nat_lt (arg call 0) ram_base || nat_lt (ram_base + 4 * c.size) (arg call 0 + arg call 1))) ≡ false →
+    by : (b : Bool) → nat_lt 0 (arg call 1) ≡ b → (b && (nat_lt (arg call 0) ram_base
+        || nat_lt (ram_base + 4 * c.size) (arg call 0 + arg call 1))) ≡ false →
         AllByRecursion (λ w. w < c.size) (cond b (range_with_len ((arg call 0 - ram_base) / 4)
         ((arg call 0 + arg call 1 - ram_base + 3) / 4 - (arg call 0 - ram_base) / 4)) [])
     by false some f = tt
@@ -54,7 +59,8 @@ written-below c call e = by (nat_lt 0 (arg call 1)) refl e
         let a = ltb-false (arg call 0) ram_base p.0 in
         let b = ltb-false (ram_base + 4 * c.size) (arg call 0 + arg call 1) p.1 in
         let n = ltb-true 0 (arg call 1) some in
-        below ((arg call 0 - ram_base) / 4) ((arg call 0 + arg call 1 - ram_base + 3) / 4 - (arg call 0 - ram_base) / 4) c.size (omega (arith, a, b, n))
+        below ((arg call 0 - ram_base) / 4) ((arg call 0 + arg call 1 - ram_base + 3) / 4 - (arg call 0 - ram_base) / 4) c.size
+        (omega (arith, a, b, n))
 
 looks-of : (size d : ℕ) (ws : List ℕ) → AllByRecursion (λ w. w < size) ws → AllByRecursion (IsLook size d) (list_map (look_of d) ws)
 looks-of size d [] all = tt
@@ -76,12 +82,18 @@ module _ (r : Reads) (c : Core) (h : ℕ) (k : IsCoherent r c) (walks : WalksAgr
   quiet-answers : (a0 : ℕ) → Quiet r c (answers c a0)
   quiet-answers a0 = record { core = k; harts = refl; change = refl }
 
-  quiet-judged : (e : Core) (o : Option ℕ) (s : Served) → IsCoherent r e → e.harts ≡ c.harts → (o ≡ None → Quiet r c s) → Quiet r c (judged e o s)
+  quiet-judged : (e : Core) (o : Option ℕ) (s : Served) → IsCoherent r e → e.harts ≡ c.harts → (o ≡ None → Quiet r c s)
+      → Quiet r c (judged e o s)
   quiet-judged e None s p same q = q refl
   quiet-judged e (Some n) s p same q = record { core = p; harts = same; change = refl }
 
   quiet-adds : (g : Gate) → Quiet r c (adds c g)
-  quiet-adds g = record { core = coherent-same r c (adds c g).core h (moved-gates c h (adds c g).core.gates) k; harts = refl; change = refl }
+  quiet-adds g = record {
+    core = coherent-same r c (adds c g).core h (moved-gates c h (adds c g).core.gates) k;
+    harts = refl;
+    change =
+        refl;
+  }
 
   coherent-looks : (looks : List Look) → AllByRecursion (IsLook c.size (hart_at c h).domain) looks → IsCoherent r (looked_all r h looks c)
   coherent-looks looks own = coherent-looked_all r h looks c k walks count live own
@@ -128,10 +140,12 @@ module _ (r : Reads) (c : Core) (h : ℕ) (k : IsCoherent r c) (walks : WalksAgr
       (λ e. record { core = k; harts = refl; change = refl })
   quiet-served Alloc q = absurd q
   quiet-served Free q = absurd q
-  quiet-served AddGate q = quiet-judged c _ (adds c (record { domain = arg call 1; word = arg_word call; target = call.domain })) k refl (λ e. quiet-adds _)
+  quiet-served AddGate q = quiet-judged c _ (adds c (record { domain = arg call 1; word = arg_word call; target = call.domain })) k refl
+      (λ e. quiet-adds _)
   quiet-served RemoveGate q =
       quiet-judged c _ _ k refl (λ e. record { core = coherent-same r c _ h (moved-gates c h _) k; harts = refl; change = refl })
-  quiet-served AddReturnGate q = quiet-judged c _ (adds c (record { domain = call.domain; word = arg_word call; target = call.domain })) k refl
+  quiet-served AddReturnGate q = quiet-judged c _ (adds c (record { domain = call.domain; word = arg_word call; target = call.domain })) k
+      refl
       (λ e. quiet-adds _)
   quiet-served Query q = quiet-judged c _ _ k refl (λ e. record { core = k; harts = refl; change = refl })
   quiet-served Self q = quiet-answers _

@@ -1,5 +1,6 @@
 -- The ranges of the calls in flight of the other harts, and the harts after one of them has heard these calls.
-use Rattle.std.proofs.Common.{◌≡◌, ◌≢◌, ℕ, zero, suc, ◌+◌, ◌<◌, ◌≤◌, ◌⊎◌, inl, inr, ◌==◌, Bool, true, false, cond, List, [], ◌∷◌, length, get_or, refl, sym, ap, subst, ◌∙◌, arith, zero-add, Option, Some, None}
+use Rattle.std.proofs.Common.{◌≡◌, ◌≢◌, ℕ, zero, suc, ◌+◌, ◌<◌, ◌≤◌, ◌⊎◌, inl, inr, ◌==◌, Bool, true, false, cond, List, [], ◌∷◌, length}
+use Rattle.std.proofs.Common.{get_or, refl, sym, ap, subst, ◌∙◌, arith, zero-add, Option, Some, None}
 use Rattle.std.proofs.Common.{map as list_map}
 use Rattle.std.specs.Prelude.{filter_map}
 use Rattle.std.specs.List.{AllByRecursion, cons_option, enumerate_from, list_any}
@@ -39,9 +40,11 @@ pub given_all : (Q : ℕ × ℕ → Type 0) (F : ℕ × Hart → Option (ℕ × 
 given_all Q F [] n each = tt
 given_all Q F (x ∷ xs) n each =
     first (F (n, x)) (λ range e. each 0 range (omega arith) (subst (λ (m : ℕ). F (m, x) ≡ Some range) (omega arith) e))
-    (given_all Q F xs (n + 1) (λ g range lt e. each (suc g) range (omega arith) (subst (λ (m : ℕ). F (m, get_or xs g no_hart) ≡ Some range) (omega arith) e)))
+    (given_all Q F xs (n + 1) (λ g range lt e. each (suc g) range (omega arith)
+    (subst (λ (m : ℕ). F (m, get_or xs g no_hart) ≡ Some range) (omega arith) e)))
   where
-    first : (o : Option (ℕ × ℕ)) → ((range : ℕ × ℕ) → o ≡ Some range → Q range) → AllByRecursion Q (filter_map F (enumerate_from (n + 1) xs)) →
+    first : (o : Option (ℕ × ℕ)) → ((range : ℕ × ℕ) → o ≡ Some range → Q range)
+        → AllByRecursion Q (filter_map F (enumerate_from (n + 1) xs)) →
         AllByRecursion Q (cons_option o (filter_map F (enumerate_from (n + 1) xs)))
     first None here p = p
     first (Some y) here p = (here y refl, p)
@@ -57,7 +60,8 @@ module _ (Q : ℕ × ℕ → Type 0) (c : Core) (h g : ℕ) (choice : List Bool 
       let chosen : cond (g == h) None (flight_range c choice (hart_at c g).status) ≡ Some (call_range c call) =
       ap (λ b. cond b None (flight_range c choice (hart_at c g).status)) other ∙ ap (flight_range c choice) waits ∙ e in
       all_given Q (λ (p : ℕ × Hart). cond (p.0 == h) None (flight_range c choice p.1.status)) c.harts 0 g (call_range c call) all here
-      (subst (λ (m : ℕ). cond (m == h) None (flight_range c choice (hart_at c g).status) ≡ Some (call_range c call)) (sym (zero-add g)) chosen)
+      (subst (λ (m : ℕ). cond (m == h) None (flight_range c choice (hart_at c g).status) ≡ Some (call_range c call)) (sym (zero-add g))
+      chosen)
 
 -- no element passes a test
 pub none_passes : (test : ℕ × ℕ → Bool) (xs : List (ℕ × ℕ)) → list_any test xs ≡ false → AllByRecursion (λ x. test x ≡ false) xs
@@ -68,11 +72,13 @@ none_passes test (x ∷ xs) e = let p = or_parts (test x) (list_any test xs) e i
 pub other_heard : (c : Core) (h g : ℕ) → g ≢ h → hart_at (hears h c) g ≡ record (hart_at c g) { status = heard_by h (hart_at c g).status }
 other_heard c h g apart = by (cases_lt g (length c.harts))
   where
-    by : (g < length c.harts) ⊎ (length c.harts ≤ g) → hart_at (hears h c) g ≡ record (hart_at c g) { status = heard_by h (hart_at c g).status }
+    by : (g < length c.harts) ⊎ (length c.harts ≤ g) → hart_at (hears h c) g
+        ≡ record (hart_at c g) { status = heard_by h (hart_at c g).status }
     by (inl lt) =
         let e : get_or (enumerate_from 0 c.harts) g (0, no_hart) ≡ (g, hart_at c g) =
         get_or-enumerate_from 0 c.harts g (0, no_hart) lt ∙ ap (λ (n : ℕ). (n, get_or c.harts g no_hart)) (zero-add g) in
-        get_or-map (hearing h) (enumerate_from 0 c.harts) g (0, no_hart) no_hart (subst (λ (n : ℕ). g < n) (sym (length-enumerate_from 0 c.harts)) lt)
+        get_or-map (hearing h) (enumerate_from 0 c.harts) g (0, no_hart) no_hart
+        (subst (λ (n : ℕ). g < n) (sym (length-enumerate_from 0 c.harts)) lt)
         ∙ ap (hearing h) e
         ∙ ap (λ b. cond b (hart_at c g) (record (hart_at c g) { status = heard_by h (hart_at c g).status })) (ne_eqb g h apart)
     by (inr le) =
@@ -86,7 +92,8 @@ other_heard c h g apart = by (cases_lt g (length c.harts))
 pub own_heard : (c : Core) (h : ℕ) → hart_at (hears h c) h ≡ hart_at c h
 own_heard c h = by (cases_lt h (length c.harts))
   where
-    same : (b : Bool) → cond b (hart_at c h) (record (hart_at c h) { status = heard_by h (hart_at c h).status }) ≡ hart_at c h → (h == h) ≡ b →
+    same : (b : Bool) → cond b (hart_at c h) (record (hart_at c h) { status = heard_by h (hart_at c h).status }) ≡ hart_at c h
+        → (h == h) ≡ b →
         hearing h (h, hart_at c h) ≡ hart_at c h
     same b p e = ap (λ b. cond b (hart_at c h) (record (hart_at c h) { status = heard_by h (hart_at c h).status })) e ∙ p
 
@@ -94,7 +101,8 @@ own_heard c h = by (cases_lt h (length c.harts))
     by (inl lt) =
         let e : get_or (enumerate_from 0 c.harts) h (0, no_hart) ≡ (h, hart_at c h) =
         get_or-enumerate_from 0 c.harts h (0, no_hart) lt ∙ ap (λ (n : ℕ). (n, get_or c.harts h no_hart)) (zero-add h) in
-        get_or-map (hearing h) (enumerate_from 0 c.harts) h (0, no_hart) no_hart (subst (λ (n : ℕ). h < n) (sym (length-enumerate_from 0 c.harts)) lt)
+        get_or-map (hearing h) (enumerate_from 0 c.harts) h (0, no_hart) no_hart
+        (subst (λ (n : ℕ). h < n) (sym (length-enumerate_from 0 c.harts)) lt)
         ∙ ap (hearing h) e
         ∙ same true refl (eq-eqb h h refl)
     by (inr le) =

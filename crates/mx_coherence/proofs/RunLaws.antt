@@ -1,19 +1,19 @@
 -- Coherence of flat states: where caches are empty, through turns, and through runs.
-use Rattle.std.proofs.Common.{◌≡◌, ℕ, zero, suc, ◌+◌, ◌-◌, ◌<◌, ◌≤◌, ◌⊎◌, inl, inr, Bool, true, false, cond, List, [], ◌∷◌, length, get_or, refl, sym, ap, subst, ◌∙◌, ◌==◌, zero-add, Option, Some, None}
+use Rattle.std.proofs.Common.{◌≡◌, ℕ, zero, suc, ◌+◌, ◌-◌, ◌<◌, ◌≤◌, ◌⊎◌, Bool, true, false, cond, List, [], ◌∷◌, length, get_or, refl, sym}
+use Rattle.std.proofs.Common.{ap, subst, ◌∙◌, ◌==◌, zero-add, Option, Some, None}
 use Rattle.std.proofs.Common.{map as list_map}
 use Rattle.std.specs.List.{AllByRecursion}
-use Rattle.std.proofs.lemmas.Bool.{cases_lt, eqb-false}
+use Rattle.std.proofs.lemmas.Bool.{eqb-false}
 use Rattle.mx_words.specs.declared.perm.Perm.{Perm}
 use Rattle.mx_words.specs.declared.perm.Perm.TheVariants as P
 use Rattle.mx_words.specs.Caches.{Cache}
-use Rattle.mx_words.specs.Changes.{changed_from, changed_map, grant_of}
 use Rattle.mx_words.specs.Hearing.{heard_range, is_in}
 use Rattle.mx_words.specs.Newest.{Grant, map}
-use Rattle.mx_words.specs.Ranges.{covers}
 use Rattle.mx_words.specs.Reach.{span}
 use Rattle.mx_words.specs.Rights.{perm_at}
-use Rattle.mx_words.proofs.OverlayLaws.{covers_from, covers_in, laid_behind, laid_below, length-map_of}
+use Rattle.mx_words.proofs.OverlayLaws.{covers_from, length-map_of}
 use Rattle.mx_words.proofs.ReachLaws.{span_round}
+use Rattle.mx_words.specs.KeptSpans.{IsClear, IsEmpty}
 use Rattle.mx_model.specs.Checks.{call_range, flight_range, heard_ranges, is_halted}
 use Rattle.mx_model.specs.Reads.{Change, Reads, flat_reads, map_in, reads}
 use Rattle.mx_model.specs.Run.{Schedule, flat_made, flat_turn, hart_of, is_stopped, maps_after, run, turn}
@@ -23,9 +23,10 @@ use Rattle.mx_model.proofs.FlatLaws.{flat-turn}
 use Rattle.mx_model.proofs.KeepLaws.{keeps-turned}
 use Rattle.mx_model.proofs.TurnLaws.{valid-turned}
 use Rattle.mx_model.proofs.ValidFlat.{length-map_in}
-use Rattle.mx_coherence.specs.Spans.{AgreesIn, IsClear, IsEmpty}
+use Rattle.mx_coherence.specs.Spans.{AgreesIn}
 use Rattle.mx_coherence.specs.Coherence.{AreWhole, HasDropped, HasEmptyCaches, IsCoherent, IsOfMap, KeepsNoStaleSpan, flat_coherent}
-use Rattle.mx_coherence.proofs.SpanLaws.{each_none, each_weaker}
+use Rattle.mx_words.proofs.SpanLaws.{each_none, each_weaker}
+use Rattle.mx_words.proofs.ChangeLaws.{outside, beside-from}
 use Rattle.mx_coherence.proofs.FollowLaws.{Follows, IsBeside}
 use Rattle.mx_coherence.proofs.LookLaws.{WalksAgree}
 use Rattle.mx_coherence.proofs.RangeLaws.{given_all}
@@ -43,32 +44,11 @@ coherent-empty r c empty = record {
   dropped = λ h g live apart. dropped-empty c h (cache_at c h) (hart_at c g).status (empty h);
 }
 
--- maps beside a change
-outside : (first count w : ℕ) → covers first count w ≡ false → (w < first) ⊎ (first + count ≤ w)
-outside first count w e = by (cases_lt w first) (cases_lt w (first + count))
-  where
-    by : (w < first) ⊎ (first ≤ w) → (w < first + count) ⊎ (first + count ≤ w) → (w < first) ⊎ (first + count ≤ w)
-    by (inl lt) y = inl lt
-    by (inr le) (inr far) = inr far
-    by (inr le) (inl lt) = let clash : true ≡ false = sym (covers_in first count w le lt) ∙ e in absurd (cc)
-
-changed-map : (first count : ℕ) (o : Option Perm) (m : List Perm) (w : ℕ) → (w < first) ⊎ (first + count ≤ w) →
-    perm_at (changed_map first count o m) w ≡ perm_at m w
-changed-map first count None m w out = refl
-changed-map first count (Some p) m w (inl lt) = laid_below (grant_of first count p) m w P.None lt
-changed-map first count (Some p) m w (inr le) = laid_behind (grant_of first count p) m w P.None le
-
-changed-from : (first count : ℕ) (given : ℕ → Option Perm) (d k : ℕ) (ms : List (List Perm)) (n : List Perm) (w : ℕ) → (w < first) ⊎ (first + count ≤ w) →
-    perm_at (get_or (changed_from first count given d ms) k n) w ≡ perm_at (get_or ms k n) w
-changed-from first count given d k [] n w out = refl
-changed-from first count given d zero (m ∷ ms) n w out = changed-map first count (given d) m w out
-changed-from first count given d (suc k) (m ∷ ms) n w out = changed-from first count given (d + 1) k ms n w out
-
 -- a turn's permissions follow its change
 follows-maps : (size : ℕ) (maps : List (List Perm)) (o : Option Change) (d w : ℕ) → IsBeside o w →
     perm_at (map_in size (maps_after maps o) d) w ≡ perm_at (map_in size maps d) w
 follows-maps size maps None d w p = refl
-follows-maps size maps (Some c) d w p = changed-from c.first c.count c.given 1 (d - 1) maps (map [] size) w (outside c.first c.count w p)
+follows-maps size maps (Some c) d w p = beside-from c.first c.count c.given 1 (d - 1) maps (map [] size) w (outside c.first c.count w p)
 
 follows-turn : (f : Flat) (h : ℕ) → Follows (flat_reads f) (flat_reads (flat_turn f h)) (flat_made f h).change
 follows-turn f h = record {
@@ -124,12 +104,14 @@ pub coherent-run : (p : Schedule) (n : ℕ) (s : State) → IsValid s.core → H
 coherent-run p n s v empty = coherent-from p n s v (coherent-empty (flat_reads (flat s)) s.core empty)
 
 -- over maps: the range of a heard call is one of those heard
-clear-range : (f : Flat) (h : ℕ) (s : Status) (range : ℕ × ℕ) → HasDropped f.core h (cache_at f.core h) s → flight_range f.core (heard_range h) s ≡ Some range →
+clear-range : (f : Flat) (h : ℕ) (s : Status) (range : ℕ × ℕ) → HasDropped f.core h (cache_at f.core h) s
+    → flight_range f.core (heard_range h) s ≡ Some range →
     IsClear range (cache_at f.core h)
 clear-range f h Running range p e = absurd (let q : ⊥ = cc in q)
 clear-range f h (Waiting call heard) range p e = by (is_in heard h) refl e
   where
-    by : (b : Bool) → is_in heard h ≡ b → cond {A = Option (ℕ × ℕ)} b (Some (call_range f.core call)) None ≡ Some range → IsClear range (cache_at f.core h)
+    by : (b : Bool) → is_in heard h ≡ b → cond {A = Option (ℕ × ℕ)} b (Some (call_range f.core call)) None ≡ Some range
+        → IsClear range (cache_at f.core h)
     by true hit q = let same : call_range f.core call ≡ range = cc in subst (λ (x : ℕ × ℕ). IsClear x (cache_at f.core h)) same (p hit)
     by false miss q = absurd (let z : ⊥ = cc in z)
 clear-range f h (Halted code) range p e = absurd (let q : ⊥ = cc in q)
@@ -149,6 +131,7 @@ clear-heard f h k live =
 
 pub stale-none : (f : Flat) (h : ℕ) → flat_coherent f → is_halted (hart_at f.core h).status ≡ false → KeepsNoStaleSpan f h
 stale-none f h k live =
-    let maps = each_weaker {F = λ d s. IsOfMap (map_in f.core.size f.maps d) s} {Q = IsOfMap (map_in f.core.size f.maps (hart_at f.core h).domain)}
+    let maps = each_weaker {F = λ d s. IsOfMap (map_in f.core.size f.maps d) s} {Q =
+    IsOfMap (map_in f.core.size f.maps (hart_at f.core h).domain)}
     (λ d s a. a.at) (λ s a. a.at) (cache_at f.core h) (k.current h live) in
     record { places = maps.places; list = maps.entries; heard = clear-heard f h k live }

@@ -1,16 +1,19 @@
 -- Coherence where one hart and its caches change, and rights with them.
-use Rattle.std.proofs.Common.{◌≡◌, ◌≢◌, ℕ, ◌-◌, ◌<◌, ◌⊎◌, inl, inr, false, List, length, refl, sym, ap, subst, ◌∙◌, get_or-set_same, get_or-set_other}
+use Rattle.std.proofs.Common.{◌≡◌, ◌≢◌, ℕ, ◌-◌, ◌<◌, ◌⊎◌, inl, inr, false, List, length, refl, sym, ap, subst, ◌∙◌, get_or-set_same}
+use Rattle.std.proofs.Common.{get_or-set_other}
 use Rattle.std.proofs.lemmas.Bool.{cases_eq}
 use Rattle.mx_words.specs.Announced.{announced}
 use Rattle.mx_words.specs.Caches.{Cache, no_cache}
 use Rattle.mx_words.specs.FirstFit.{Area}
+use Rattle.mx_words.specs.KeptSpans.{IsClear}
 use Rattle.mx_model.specs.declared.values.Call.{Call}
 use Rattle.mx_model.specs.declared.values.Gate.{Gate}
 use Rattle.mx_model.specs.Checks.{arg, call_range, is_halted}
 use Rattle.mx_model.specs.Reads.{Reads}
-use Rattle.mx_model.specs.State.{Core, Hart, Module, Status, Running, Waiting, Halted, cache_at, hart_at, module_at, no_hart, no_module, with_cache, with_hart, with_module}
+use Rattle.mx_model.specs.State.{Core, Hart, Module, Status, Running, Waiting, Halted, cache_at, hart_at, module_at, no_hart, no_module}
+use Rattle.mx_model.specs.State.{with_cache, with_hart, with_module}
 use Rattle.mx_model.proofs.SetLaws.{part-set}
-use Rattle.mx_coherence.specs.Spans.{AreCurrent, IsClear}
+use Rattle.mx_coherence.specs.Spans.{AreCurrent}
 use Rattle.mx_coherence.specs.Coherence.{HasDropped, IsCoherent}
 
 -- state e differs from c in hart h, which is y there, in its caches, which are k there, and in nothing else that coherence reads
@@ -31,7 +34,8 @@ moved-twice c e f h y z k l a b = record {
 }
 
 -- the second fact depends on the state by the ranges of calls alone
-pub dropped-ranges : (c e : Core) → ((call : Call) → call_range e call ≡ call_range c call) → (h : ℕ) (k : Cache) (s : Status) → HasDropped c h k s →
+pub dropped-ranges : (c e : Core) → ((call : Call) → call_range e call ≡ call_range c call) → (h : ℕ) (k : Cache) (s : Status)
+    → HasDropped c h k s →
     HasDropped e h k s
 dropped-ranges c e same h k Running p = tt
 dropped-ranges c e same h k (Waiting call heard) p = λ hit. subst (λ (range : ℕ × ℕ). IsClear range k) (sym (same call)) (p hit)
@@ -43,7 +47,8 @@ pub record Follow (q : Reads) (c : Core) (h : ℕ) (y : Hart) (k : Cache) : Type
   pub own_dropped : (g : ℕ) → is_halted y.status ≡ false → g ≢ h → HasDropped c h k (hart_at c g).status
   pub others : (g : ℕ) → is_halted (hart_at c g).status ≡ false → g ≢ h → AreCurrent q (hart_at c g).domain (cache_at c g)
   pub own_call : (g : ℕ) → is_halted (hart_at c g).status ≡ false → g ≢ h → HasDropped c g (cache_at c g) y.status
-  pub among : (g i : ℕ) → is_halted (hart_at c g).status ≡ false → g ≢ h → i ≢ h → i ≢ g → HasDropped c g (cache_at c g) (hart_at c i).status
+  pub among : (g i : ℕ) → is_halted (hart_at c g).status ≡ false → g ≢ h → i ≢ h → i ≢ g
+      → HasDropped c g (cache_at c g) (hart_at c i).status
 
 -- a fact of a hart, caches and another hart, of others that are the same
 pub three : (P : Hart → Cache → Hart → Type 0) (x a : Hart) (k l : Cache) (z b : Hart) → x ≡ a → k ≡ l → z ≡ b → P a l b → P x k z
@@ -74,7 +79,8 @@ module _ (q : Reads) (c e : Core) (h : ℕ) (y : Hart) (k : Cache) (m : Moved c 
       (hart_at e h) y (m.harts g a) (m.caches g a) m.hart
       (λ live. dropped-ranges c e m.ranges g (cache_at c g) y.status (f.own_call g live a)))
   dropped_at g i apart (inr a) (inr b) =
-      three (λ x l z. is_halted x.status ≡ false → HasDropped e g l z.status) (hart_at e g) (hart_at c g) (cache_at e g) (cache_at c g) (hart_at e i)
+      three (λ x l z. is_halted x.status ≡ false → HasDropped e g l z.status) (hart_at e g) (hart_at c g) (cache_at e g) (cache_at c g)
+      (hart_at e i)
       (hart_at c i) (m.harts g a) (m.caches g a) (m.harts i b)
       (λ live. dropped-ranges c e m.ranges g (cache_at c g) (hart_at c i).status (f.among g i live a b apart))
 
@@ -124,7 +130,8 @@ pub moved-gates : (c : Core) (h : ℕ) (gates : List Gate) → Moved c (record c
 moved-gates c h gates = record { hart = refl; cache = refl; harts = λ g apart. refl; caches = λ g apart. refl; ranges = λ call. refl }
 
 -- a module changed, but for its heap area
-pub moved-module : (c : Core) (h d : ℕ) (m : Module) → m.heap ≡ (module_at c d).heap → Moved c (with_module d m c) h (hart_at c h) (cache_at c h)
+pub moved-module : (c : Core) (h d : ℕ) (m : Module) → m.heap ≡ (module_at c d).heap
+    → Moved c (with_module d m c) h (hart_at c h) (cache_at c h)
 moved-module c h d m e = record {
   hart = refl;
   cache = refl;

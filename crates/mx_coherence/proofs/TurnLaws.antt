@@ -1,5 +1,6 @@
 -- Coherence through a turn.
-use Rattle.std.proofs.Common.{◌≡◌, ℕ, ◌+◌, ◌-◌, ◌*◌, ◌<◌, Bool, true, false, cond, not, ◌==◌, ◌%◌, nat_le, nat_lt, List, length, refl, sym, ap, subst, arith, Option, Some, None, if◌then◌else◌}
+use Rattle.std.proofs.Common.{◌≡◌, ℕ, ◌+◌, ◌-◌, ◌*◌, ◌<◌, Bool, true, false, cond, not, ◌==◌, ◌%◌, nat_le, nat_lt, List, length, refl, sym}
+use Rattle.std.proofs.Common.{ap, subst, arith, Option, Some, None, if◌then◌else◌}
 use Rattle.std.specs.List.{AllByRecursion}
 use Rattle.std.proofs.lemmas.Bool.{and_parts, ltb-true}
 use Rattle.mx_words.specs.declared.perm.Access.TheVariants as A
@@ -13,7 +14,9 @@ use Rattle.mx_model.specs.Effect.{Effect, Goes, Faults, Loads, Stores, Calls, Ju
 use Rattle.mx_model.specs.Gates.{most_frames}
 use Rattle.mx_model.specs.Reads.{Reads}
 use Rattle.mx_model.specs.State.{Core, Hart, Status, Running, Waiting, Halted, cache_at, hart_at, module_at}
-use Rattle.mx_model.specs.Turn.{Action, Rests, Waits, Serves, Asks, Traps, Bounces, Crosses, Returns, Runs, Writes, Decided, acted, by_effect, by_status, by_word, call_gate_at, call_of, counted, decide, enacted, fetches, heard_first, is_denied, load_at, runs_at, runs_in, traps, turned, without_look}
+use Rattle.mx_model.specs.Turn.{Action, Rests, Waits, Serves, Asks, Traps, Bounces, Crosses, Returns, Runs, Writes, Decided, acted}
+use Rattle.mx_model.specs.Turn.{by_effect, by_status, by_word, call_gate_at, call_of, counted, decide, enacted, fetches, heard_first}
+use Rattle.mx_model.specs.Turn.{is_denied, load_at, runs_at, runs_in, traps, turned, without_look}
 use Rattle.mx_model.specs.Valid.{IsStatus, IsValid}
 use Rattle.mx_model.proofs.JoinLaws.{all-join}
 use Rattle.mx_model.proofs.TurnCases.{looked_all-caches}
@@ -49,7 +52,8 @@ looks-effect r c h x (Stores p address size value) = looks-in c p x.domain addre
 looks-effect r c h x Calls = tt
 looks-effect r c h x (Jumps rd target) = tt
 
-looks-word : (r : Reads) (c : Core) (h : ℕ) (x : Hart) (word : ℕ) (o : Option Inst) → AllByRecursion (IsLook c.size x.domain) (by_word r c h x word o).looks
+looks-word : (r : Reads) (c : Core) (h : ℕ) (x : Hart) (word : ℕ) (o : Option Inst)
+    → AllByRecursion (IsLook c.size x.domain) (by_word r c h x word o).looks
 looks-word r c h x word None = tt
 looks-word r c h x word (Some inst) = looks-effect r c h x (effect inst x.regs x.pc)
 
@@ -57,7 +61,8 @@ looks-fetch : (r : Reads) (c : Core) (h : ℕ) (x : Hart) (b : Bool) → AllByRe
 looks-fetch r c h x true = tt
 looks-fetch r c h x false = looks-word r c h x (load_at c x.pc 4) (decoded (load_at c x.pc 4))
 
-looks-passing : (c : Core) (d : ℕ) (b : Bool) (p q : Decided) → AllByRecursion (IsLook c.size d) p.looks → AllByRecursion (IsLook c.size d) q.looks →
+looks-passing : (c : Core) (d : ℕ) (b : Bool) (p q : Decided) → AllByRecursion (IsLook c.size d) p.looks
+    → AllByRecursion (IsLook c.size d) q.looks →
     AllByRecursion (IsLook c.size d) (cond b p q).looks
 looks-passing c d true p q a b = a
 looks-passing c d false p q a b = b
@@ -99,7 +104,8 @@ run-returning : (h : ℕ) (x : Hart) (a : Action) → IsReturning x a → IsRun 
 run-returning h x a (Refused cause value) = tt
 run-returning h x a (Returned rd frame p) = tt
 
-run-leaves : (r : Reads) (c : Core) (h : ℕ) (x : Hart) → Leaves r c h x x.frames x.status (λ (k : Border) (a : Action) (l : Border) (b : Action). IsRun h x a)
+run-leaves : (r : Reads) (c : Core) (h : ℕ) (x : Hart) → Leaves r c h x x.frames x.status
+    (λ (k : Border) (a : Action) (l : Border) (b : Action). IsRun h x a)
 run-leaves r c h x = record {
   trap = λ cause value. tt;
   gate = λ word target x1 a b p q. run-passing h x a p;
@@ -132,7 +138,8 @@ module _ (r : Reads) (c : Core) (h : ℕ) (k : IsCoherent r c) (walks : WalksAgr
       (subst (λ (s : Status). IsStatus (length c.harts) h (hart_at c h) s) e (v.harts h lt).status).own in (
         own,
         λ g live apart.
-            subst (λ (s : Status). HasDropped c g (cache_at c g) s) e (k.dropped g h live (λ x. apart (sym x))) (ready-heard c h g heard f apart live),
+            subst (λ (s : Status). HasDropped c g (cache_at c g) s) e (k.dropped g h live (λ x. apart (sym x)))
+            (ready-heard c h g heard f apart live),
       )
 
   -- the looks come first; a hart that waits or rests looks at nothing
@@ -147,7 +154,8 @@ module _ (r : Reads) (c : Core) (h : ℕ) (k : IsCoherent r c) (walks : WalksAgr
       subst (λ (z : Core). IsCoherent r z) same (coherent-looked_all r h d.looks c k walks v.caches live (looks-status r c h x Running)) in
       let run : IsRun h x d.action = walk r c r c h x x.frames x.status (λ a b m n. IsRun h x b) (same-self r c x) (run-leaves r c h x) in
       subst (λ (z : Core). IsOutcome r (acted r z h x d.action)) (sym same)
-      (acted-outcome r (record c { caches = seen.caches }) h now walks (valid-caches c seen.caches v (keeps-looked_all r h d.looks c).caches) live d.action
+      (acted-outcome r (record c { caches = seen.caches }) h now walks
+      (valid-caches c seen.caches v (keeps-looked_all r h d.looks c).caches) live d.action
       (run-may (record c { caches = seen.caches }) h d.action run))
   enacted-status (Waiting call heard) e =
       let b = is_ready c h heard in
@@ -158,14 +166,22 @@ module _ (r : Reads) (c : Core) (h : ℕ) (k : IsCoherent r c) (walks : WalksAgr
   enacted-outcome = enacted-status (hart_at c h).status refl
 
 -- a hart that isn't halted hears first
-coherent-heard_first : (r : Reads) (c : Core) (h : ℕ) → IsCoherent r c → length c.caches ≡ length c.harts → (b : Bool) → is_halted (hart_at c h).status ≡ b →
+coherent-heard_first : (r : Reads) (c : Core) (h : ℕ) → IsCoherent r c → length c.caches ≡ length c.harts → (b : Bool)
+    → is_halted (hart_at c h).status ≡ b →
     IsCoherent r (cond b c (hears h c))
 coherent-heard_first r c h k count true e = k
 coherent-heard_first r c h k count false e = coherent-hears r c h k count e
 
 coherent-counted : (r : Reads) (c : Core) → IsCoherent r c → IsCoherent r (counted c)
 coherent-counted r c k =
-    coherent-same r c (counted c) 0 (record { hart = refl; cache = refl; harts = λ g apart. refl; caches = λ g apart. refl; ranges = λ call. refl }) k
+    coherent-same r c (counted c) 0 (record {
+      hart = refl;
+      cache = refl;
+      harts = λ g apart. refl;
+      caches = λ g apart. refl;
+      ranges = λ call.
+          refl;
+    }) k
 
 -- a turn
 pub turned-outcome : (r : Reads) (c : Core) (h : ℕ) → IsCoherent r c → WalksAgree r c.size → IsValid c → IsOutcome r (turned r c h)

@@ -7,10 +7,11 @@ use Rattle.mx_words.specs.declared.perm.Span.{Span}
 use Rattle.mx_words.specs.Caches.{Cache, Entry, covers_word}
 use Rattle.mx_words.specs.Hearing.{is_in}
 use Rattle.mx_words.specs.Rights.{perm_at}
+use Rattle.mx_words.specs.KeptSpans.{IsClear, IsEmpty}
 use Rattle.mx_model.specs.Checks.{call_range, heard_ranges, is_halted}
 use Rattle.mx_model.specs.Reads.{Reads, flat_reads, map_in}
 use Rattle.mx_model.specs.State.{Core, Flat, Status, Running, Waiting, Halted, cache_at, hart_at}
-use Rattle.mx_coherence.specs.Spans.{AreCurrent, IsClear, IsEmpty}
+use Rattle.mx_coherence.specs.Spans.{AreCurrent}
 
 -- where hart h has heard the call on which a hart of that status waits, its caches keep no span that meets the call's range
 abbrev pub HasDropped : Core → ℕ → Cache → Status → Type 0
@@ -41,7 +42,8 @@ AreWhole f = (d : ℕ) → length (map_in f.core.size f.maps d) ≡ f.core.size
 abbrev pub IsOfMap : List Perm → Span → Type 0
 IsOfMap m s = (w : ℕ) → covers_word s w ≡ true → perm_at m w ≡ s.perm
 
--- hart h's spans are those of the maps, at a place of its domain's and in the list of the entry's own domain's, and none meets the range of another
+-- hart h's spans are those of the maps, at a place of its domain's and in the list of the entry's own domain's, and none meets the range of
+-- another
 -- hart's call in flight that it has heard
 pub record KeepsNoStaleSpan (f : Flat) (h : ℕ) : Type 0 where
   pub places :

@@ -1,13 +1,9 @@
--- What holds of each span that a hart's caches keep.
-use Rattle.std.specs.Prelude.{◌≡◌, ℕ, true, false, [], All, IfSome, Option, None, replicate}
+-- What the spans that a hart's caches keep say of rights.
+use Rattle.std.specs.Prelude.{◌≡◌, ℕ, true}
 use Rattle.mx_words.specs.declared.perm.Span.{Span}
-use Rattle.mx_words.specs.Caches.{Cache, Entry, covers_word, meets, place_count}
+use Rattle.mx_words.specs.Caches.{Cache, covers_word}
+use Rattle.mx_words.specs.KeptSpans.{EachSpan}
 use Rattle.mx_model.specs.Reads.{Reads}
-
--- E of each entry of the list and its domain, and P of each span in a place
-pub record EachSpan (E : ℕ → Span → Type 0) (P : Span → Type 0) (c : Cache) : Type 0 where
-  pub entries : All (λ (e : Entry). E e.0 e.1) c.kept
-  pub places : All (λ (o : Option Span). IfSome o P) c.places
 
 -- a span has its permission on each of its words, in a domain
 pub record AgreesIn (r : Reads) (d : ℕ) (s : Span) : Type 0 where
@@ -16,13 +12,3 @@ pub record AgreesIn (r : Reads) (d : ℕ) (s : Span) : Type 0 where
 -- a place's spans agree in domain d, and each entry of the list in its own
 abbrev pub AreCurrent : Reads → ℕ → Cache → Type 0
 AreCurrent r d c = EachSpan (AgreesIn r) (AgreesIn r d) c
-
--- no span meets a range
-abbrev pub IsClear : ℕ × ℕ → Cache → Type 0
-IsClear range c =
-    EachSpan (λ d s. meets s range.0 range.1 ≡ false) (λ s. meets s range.0 range.1 ≡ false) c
-
--- caches without a span, whatever they have counted
-pub record IsEmpty (c : Cache) : Type 0 where
-  pub places : c.places ≡ replicate place_count None
-  pub kept : c.kept ≡ []

@@ -7,10 +7,14 @@ ghost use Rattle.mx_model.specs.State.{Core, Flat, State, flat, hart_at};
 ghost use Rattle.mx_model.specs.Valid.{IsFlat, IsValid};
 ghost use Rattle.mx_coherence.specs.Coherence.{AreWhole, HasEmptyCaches, IsCoherent, KeepsNoStaleSpan, flat_coherent};
 
-/// Coherence. Each hart that isn't halted has on each word of each span that it keeps, at a place or in its list, the permission that
-/// the span says: by its domain's map at a place, by the entry's own domain's map in the list. None of its spans meets the range of a
-/// call in flight that it has heard. It holds where the caches are empty, whatever is answered of rights, and every turn of a valid
-/// flat state keeps it, whoever makes the turn; so it holds in every run from a valid state with empty caches, after every number of
+/// Coherence. Each hart that isn't halted has on each word of each span that it keeps, at a place or in its list, the
+/// permission that
+/// the span says: by its domain's map at a place, by the entry's own domain's map in the list. None of its spans meets
+/// the range of a
+/// call in flight that it has heard. It holds where the caches are empty, whatever is answered of rights, and every
+/// turn of a valid
+/// flat state keeps it, whoever makes the turn; so it holds in every run from a valid state with empty caches, after
+/// every number of
 /// turns.
 pub fn spans_are_coherent()
     ensures empty { (r : Reads) (c : Core) → HasEmptyCaches c → IsCoherent r c }

@@ -6,7 +6,8 @@ ghost use Rattle.mx_command_tests.specs.Crumbs.{crumb_store, crumb_sink};
 
 use mx_io::{Failed, Sink, Store};
 
-/// A store or a sink over the one in it: each call goes to that one, and moves at most `most` bytes, but one where `most` is 0.
+/// A store or a sink over the one in it: each call goes to that one, and moves at most `most` bytes, but one where
+/// `most` is 0.
 #[derive(Drop)]
 pub struct Crumbs<T> {
     /// What is called.

@@ -1,4 +1,5 @@
-//! Each call of the store and of the sinks fails once, of each command and each refusal; also where each call moves one byte alone.
+//! Each call of the store and of the sinks fails once, of each command and each refusal; also where each call moves one
+//! byte alone.
 
 use crate::outside::{Outside, PARTS, Part, WHOLE};
 use crate::resumes::{RESUMES, UNRESUMED};
@@ -22,7 +23,8 @@ fn moves(length: usize, most: usize) -> u64 {
 /// What the report of a refusal begins with whose last file is over its limit: that file is asked for its size alone.
 const OVER: &[u8] = b"refused fault=9 ";
 
-/// How many calls of the store a row makes: of each file the size and, where it is there and within its limit, the bytes.
+/// How many calls of the store a row makes: of each file the size and, where it is there and within its limit, the
+/// bytes.
 fn asks(row: &Row, most: usize) -> u64 {
     let read = if row.closing.as_bytes().starts_with(OVER) {
         row.files.len().saturating_sub(1)
@@ -37,7 +39,8 @@ fn asks(row: &Row, most: usize) -> u64 {
     calls
 }
 
-/// How many calls of a part a row makes. Each text of a row is short enough to leave as one piece, and a dump as one or two.
+/// How many calls of a part a row makes. Each text of a row is short enough to leave as one piece, and a dump as one or
+/// two.
 fn calls(row: &Row, part: Part, most: usize) -> u64 {
     match part {
         Part::Store => asks(row, most),
@@ -106,12 +109,14 @@ fn is_right(
     Ok(right)
 }
 
-/// Whether no call of a part is to be made, where one of another part may fail. The report gets the line of a fault of the store.
+/// Whether no call of a part is to be made, where one of another part may fail. The report gets the line of a fault of
+/// the store.
 fn is_spare(row: &Row, part: Part, failing: Part, most: usize) -> bool {
     calls(row, part, most) == 0 && !(part == Part::Report && failing == Part::Store)
 }
 
-/// Runs a row of which the call of a part with that number fails, where so many are made, and compares what came. The parts that
+/// Runs a row of which the call of a part with that number fails, where so many are made, and compares what came. The
+/// parts that
 /// aren't called would fail at the first call.
 pub fn try_call(
     rt: &impl Abort,

@@ -1,4 +1,5 @@
-//! Tests of the commands over stores and sinks in memory: calls that fail, calls that move one byte alone, runs that are stopped and
+//! Tests of the commands over stores and sinks in memory: calls that fail, calls that move one byte alone, runs that
+//! are stopped and
 //! resumed, and the command `mill`.
 #![tactic(auto)]
 

@@ -1,4 +1,5 @@
-//! The command `resume`: runs that are stopped and go on, snapshots that are resumed over themselves, words without meaning, and files over
+//! The command `resume`: runs that are stopped and go on, snapshots that are resumed over themselves, words without
+//! meaning, and files over
 //! their limits.
 
 use crate::failing::try_call;
@@ -20,7 +21,8 @@ fn begins_with(report: &[u8], notes: &[u8]) -> bool {
     }
 }
 
-/// Whether the texts of two calls together are these: both consoles, and the notes of the first report and the second report.
+/// Whether the texts of two calls together are these: both consoles, and the notes of the first report and the second
+/// report.
 fn are_together(first: &Outside, second: &Outside, texts: &Texts) -> bool {
     let report = texts.report.as_bytes();
     let console = texts.console.as_bytes();
@@ -36,7 +38,8 @@ fn are_together(first: &Outside, second: &Outside, texts: &Texts) -> bool {
     }
 }
 
-/// Whether a run of a manifest by some words and then, by others, one that goes on from its snapshot give these texts together.
+/// Whether a run of a manifest by some words and then, by others, one that goes on from its snapshot give these texts
+/// together.
 fn go_on(
     alloc: Global,
     manifest: &[u8],
@@ -54,7 +57,8 @@ fn go_on(
     Ok(stopped == Status::Ran && ended == Status::Ran && are_together(&first, &second, texts))
 }
 
-/// The first number of turns after which a run of a machine, over tables of this kind, is stopped and doesn't go on as the whole one.
+/// The first number of turns after which a run of a machine, over tables of this kind, is stopped and doesn't go on as
+/// the whole one.
 fn first_wrong_stop(alloc: Global, run: &Run, kind: &str) -> Result<Option<u32>, Fail> {
     let rest = run.rest;
     let manifest = format!(in alloc; "version = 2\nram_kib = 64\ntables = \"{kind}\"\n{rest}")?;
@@ -101,7 +105,8 @@ fn a_schedule_goes_on_where_it_was(rt: HostRuntime) -> Result<(), Fail> {
     Ok(())
 }
 
-/// The last of so many calls, each of one turn more, from the snapshot that the one before wrote, over which its own is written.
+/// The last of so many calls, each of one turn more, from the snapshot that the one before wrote, over which its own is
+/// written.
 fn last_over_itself(alloc: Global, times: u32) -> Result<Outside, Fail> {
     let mut last = Outside::new(alloc, WHOLE)?;
     last.ask(alloc, "run hi.toml 0 --save")?;
@@ -165,7 +170,8 @@ fn words_that_resume_nothing(rt: HostRuntime) -> Result<(), Fail> {
     Ok(())
 }
 
-/// Sizes that are told of the snapshot `begun.bin`, which has 65805 bytes, and of `order`, which has 6; the number of the status, and the
+/// Sizes that are told of the snapshot `begun.bin`, which has 65805 bytes, and of `order`, which has 6; the number of
+/// the status, and the
 /// line. A file over its limit isn't read.
 const SIZES: [(u64, u64, u32, &str); 5] = [
     (1073741825, 6, 14, "snapshot fault=1 at=0\n"),

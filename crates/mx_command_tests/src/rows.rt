@@ -1,4 +1,5 @@
-//! The rows of the tests: command lines, and what comes of each where no call fails. The texts follow from the rules; those of runs
+//! The rows of the tests: command lines, and what comes of each where no call fails. The texts follow from the rules;
+//! those of runs
 //! and the image were worked out by a second simulator and another writer, which were made from the rules alone.
 
 use crate::snapshots::{Dump, length_of_snapshot};
@@ -101,7 +102,8 @@ input_words = 2
 module = \"m\"
 ";
 
-/// The files of each call. The first schedule names hart 0, a hart that isn't there, and hart 0 four times; the second one hart 0 once, and
+/// The files of each call. The first schedule names hart 0, a hart that isn't there, and hart 0 four times; the second
+/// one hart 0 once, and
 /// the third none.
 pub static FILES: [(&str, &[u8]); 11] = [
     ("hi.s", SOURCE),
@@ -269,7 +271,8 @@ pub static OTHERS: [Row; 5] = [
 /// Words, the number of the status, the files that are asked for, and the line.
 pub type Refusal = (&'static str, u32, &'static [&'static str], &'static str);
 
-/// Commands that end with a refusal: one of each line but that of a snapshot and that of a short file, which no store that tells has.
+/// Commands that end with a refusal: one of each line but that of a snapshot and that of a short file, which no store
+/// that tells has.
 pub static REFUSALS: [Refusal; 12] = [
     (
         "run hi.toml",

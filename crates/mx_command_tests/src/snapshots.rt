@@ -1,4 +1,5 @@
-//! Snapshots of `hi.toml`, as bytes. That after seven turns was written by another writer, which was made from the rules alone; the
+//! Snapshots of `hi.toml`, as bytes. That after seven turns was written by another writer, which was made from the
+//! rules alone; the
 //! others differ from it in numbers at places, which follow from the rules.
 
 use std::alloc::{AllocError, Global};
@@ -49,11 +50,14 @@ const WHOLE: usize = 65805;
 
 const LONGER: usize = 65806;
 
-/// A snapshot: its name, its length, and what stands at places in it, four bytes each, in place of what that after seven turns has.
+/// A snapshot: its name, its length, and what stands at places in it, four bytes each, in place of what that after
+/// seven turns has.
 type Snapshot = (&'static str, usize, &'static [(usize, u32)]);
 
-/// Two that are whole, after seven turns and after one, and others with a fault or with a need over their limit. From its place 8 on a
-/// snapshot has the words, the kind, three limits (of leaves at 20), the buffer's size, the quantum (at 32), two numbers, and the turns
+/// Two that are whole, after seven turns and after one, and others with a fault or with a need over their limit. From
+/// its place 8 on a
+/// snapshot has the words, the kind, three limits (of leaves at 20), the buffer's size, the quantum (at 32), two
+/// numbers, and the turns
 /// (at 44); the hart has its status at 121, its domain, its pc at 129 and 32 registers from 133 on.
 static SAVED: [Snapshot; 9] = [
     ("halted.bin", WHOLE, &[]),

@@ -25,7 +25,8 @@ sized plan images inputs =
     }
 
 -- is of its plan's size, and a machine of its plan
-pub boots_fresh : (plan : Said) (images inputs : List (List ℕ)) (t : State) → boot_of plan images inputs ≡ Ok t → IsOfSize plan (flat t) × IsOfPlan (kept_of plan) (flat t)
+pub boots_fresh : (plan : Said) (images inputs : List (List ℕ)) (t : State) → boot_of plan images inputs ≡ Ok t
+    → IsOfSize plan (flat t) × IsOfPlan (kept_of plan) (flat t)
 boots_fresh plan images inputs t is = (
   subst (λ (s : State). IsOfSize plan (flat s)) (sym (boots plan images inputs t is)) (sized plan images inputs),
   boots_of_plan plan images inputs t is,

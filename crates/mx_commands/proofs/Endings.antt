@@ -28,7 +28,8 @@ module _ {A E : Type 0} (status : Status) (text : List ℕ) {before now : SinkSt
   ends_reported puts console dump =
       let holds : Holds (still [] text []) (sinks console before dump) (sinks console now dump)
       = record { console = appends_nothing console.written; report = puts.whole; dump = appends_nothing dump.written } in
-      let kept : CountsKept (sinks console before dump) (sinks console now dump) = record { console = refl; report = puts.kept; dump = refl } in
+      let kept : CountsKept (sinks console before dump) (sinks console now dump) =
+      record { console = refl; report = puts.kept; dump = refl } in
       record { how = inl (refl, holds, kept); sure = λ room. (refl, holds, kept) }
 
   -- it could not be put whole
@@ -59,7 +60,8 @@ module _ {A E : Type 0} (status : Status) (text : List ℕ) {before now : SinkSt
   ends_shown puts report dump =
       let holds : Holds (still text [] []) (sinks before report dump) (sinks now report dump)
       = record { console = puts.whole; report = appends_nothing report.written; dump = appends_nothing dump.written } in
-      let kept : CountsKept (sinks before report dump) (sinks now report dump) = record { console = puts.kept; report = refl; dump = refl } in
+      let kept : CountsKept (sinks before report dump) (sinks now report dump) =
+      record { console = puts.kept; report = refl; dump = refl } in
       record { how = inl (refl, holds, kept); sure = λ room. (refl, holds, kept) }
 
   -- they could not be put whole

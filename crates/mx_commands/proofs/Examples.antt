@@ -24,28 +24,34 @@ use Rattle.mx_words.specs.declared.tables.Need.{Need}
 use Rattle.mx_commands.specs.Resumed.{Onward, resumed}
 use Rattle.mx_turns.specs.declared.task.Dump.TheVariants.{Ram}
 use Rattle.mx_plan.specs.Manifest.{file_fault}
-use Rattle.mx_commands.specs.Refusal.{refused_line, fault_text, place_text, detail_text, tables_full_line, short_file_line, no_file_line, asm_fault_line, unlike_line, snapshot_fault_line}
+use Rattle.mx_commands.specs.Refusal.{refused_line, fault_text, place_text, detail_text, tables_full_line, short_file_line, no_file_line}
+use Rattle.mx_commands.specs.Refusal.{asm_fault_line, unlike_line, snapshot_fault_line}
 
 -- what follows a first boot, and a snapshot: the need of its tables, then its schedule
-next_second : (plan : Said) (s : State) → after_first (record { first = codes "p"; second = codes "q"; domain = 1; steps = 10 }) plan s [] ≡ Read (manifest_file Second (codes "q"))
+next_second : (plan : Said) (s : State) → after_first (record { first = codes "p"; second = codes "q"; domain = 1; steps = 10 }) plan s []
+    ≡ Read (manifest_file Second (codes "q"))
 next_second plan s = refl
 
-next_full_snapshot : (rest : Onward) (need limit : Need) (found : List Finding) → resumed (codes "memory.bin") rest (Err (NeedsMore need limit)) found
+next_full_snapshot : (rest : Onward) (need limit : Need) (found : List Finding)
+    → resumed (codes "memory.bin") rest (Err (NeedsMore need limit)) found
     ≡ End (refusal (codes "memory.bin") (TablesFull need limit))
 next_full_snapshot rest need limit found = refl
 
 next_schedule_of_a_snapshot : (stored : Stored)
-    → resumed (codes "memory.bin") (run_from (record (plain_order way.Resume (codes "memory.bin") 9) { schedule = Some (codes "s") })) (Ok stored) [] ≡ Read (schedule_file (codes "s"))
+    → resumed (codes "memory.bin") (run_from (record (plain_order way.Resume (codes "memory.bin") 9) { schedule = Some (codes "s") }))
+    (Ok stored) [] ≡ Read (schedule_file (codes "s"))
 next_schedule_of_a_snapshot stored = refl
 
 -- nine turns are added to those made, which a schedule's bytes count too
 texts_of_a_snapshot : (kept : KeptPlan) (s : State) (bytes : List ℕ)
-    → texts_of (record (plain_order way.Resume (codes "memory.bin") 9) { shown = record nothing { dump = Some Ram } }) way.Resume kept s (ByBytes bytes)
+    → texts_of (record (plain_order way.Resume (codes "memory.bin") 9) { shown = record nothing { dump = Some Ram } }) way.Resume kept s
+    (ByBytes bytes)
     ≡ ended kept (record { tables = false; counts = false }) (Some Ram) (s.core.turns + 9) 9 (λ made. run (ByBytes bytes) made s)
 texts_of_a_snapshot kept s bytes = refl
 
 -- a file of three bytes in two parts, and one that ended after two of them
-finds_whole : Finds 9 (codes "f") (Sized (codes "f") (Some (Some 3)) ∷ Gave (codes "f") 0 3 (Some (7 ∷ 8 ∷ [])) ∷ Gave (codes "f") 2 1 (Some (9 ∷ [])) ∷ []) (Whole (7 ∷ 8 ∷ 9 ∷ []))
+finds_whole : Finds 9 (codes "f") (Sized (codes "f") (Some (Some 3)) ∷ Gave (codes "f") 0 3 (Some (7 ∷ 8 ∷ []))
+    ∷ Gave (codes "f") 2 1 (Some (9 ∷ [])) ∷ []) (Whole (7 ∷ 8 ∷ 9 ∷ []))
 finds_whole = (
   Some (Some 3),
   refl,
@@ -65,7 +71,8 @@ finds_whole = (
   ),
 )
 
-finds_short : Finds 9 (codes "f") (Sized (codes "f") (Some (Some 3)) ∷ Gave (codes "f") 0 3 (Some (7 ∷ 8 ∷ [])) ∷ Gave (codes "f") 2 1 (Some []) ∷ []) (Short 3 2)
+finds_short : Finds 9 (codes "f") (Sized (codes "f") (Some (Some 3)) ∷ Gave (codes "f") 0 3 (Some (7 ∷ 8 ∷ []))
+    ∷ Gave (codes "f") 2 1 (Some []) ∷ []) (Short 3 2)
 finds_short = (
   Some (Some 3),
   refl,
@@ -94,7 +101,8 @@ refused_example : refused_line (file_fault 9) ≡ codes "refused fault=9 at=mani
 unfolding refused_line fault_text place_text detail_text digits
 refused_example = refl
 
-full_example : tables_full_line (record { upper = 2; leaf = 1; spill = 0 }) (record { upper = 128; leaf = 0; spill = 4096 }) ≡ codes "tables full upper=2/128 leaf=1/0 spill=0/4096\n"
+full_example : tables_full_line (record { upper = 2; leaf = 1; spill = 0 }) (record { upper = 128; leaf = 0; spill = 4096 })
+    ≡ codes "tables full upper=2/128 leaf=1/0 spill=0/4096\n"
 unfolding tables_full_line digits
 full_example = refl
 

@@ -25,12 +25,15 @@ leads_over zero step files answers outcome ok of l = l.0
 leads_over (suc n) step files answers outcome ok of l =
     let oks = subst (Each HasSucceeded) l.5 ok in
     let ofs = subst (Each (IsOf files)) l.5 of in
-    let found = finds_over files l.0.name l.0.most l.1 l.3 (each-front HasSucceeded l.1 l.2 oks) (each-front (IsOf files) l.1 l.2 ofs) l.6 in
-    let rest = leads_over n (λ more. step (l.3 ∷ more)) files l.2 outcome (each-rest HasSucceeded l.1 l.2 oks) (each-rest (IsOf files) l.1 l.2 ofs) l.7 in
+    let found = finds_over files l.0.name l.0.most l.1 l.3 (each-front HasSucceeded l.1 l.2 oks) (each-front (IsOf files) l.1 l.2 ofs) l.6
+    in
+    let rest = leads_over n (λ more. step (l.3 ∷ more)) files l.2 outcome (each-rest HasSucceeded l.1 l.2 oks)
+    (each-rest (IsOf files) l.1 l.2 ofs) l.7 in
     (l.0, l.4, subst (λ (found : Finding). LeadsOver n (λ more. step (found ∷ more)) files outcome) found rest)
 
 -- files lead to one outcome
-pub over_decided : (n m : ℕ) (step : List Finding → Next) (files : FileMap) (a b : Outcome) → LeadsOver n step files a → LeadsOver m step files b → a ≡ b
+pub over_decided : (n m : ℕ) (step : List Finding → Next) (files : FileMap) (a b : Outcome) → LeadsOver n step files a
+    → LeadsOver m step files b → a ≡ b
 over_decided zero zero step files a b l r = end_same (sym l ∙ r)
 over_decided zero (suc m) step files a b l r = absurd (read_end (sym r.1 ∙ l))
 over_decided (suc n) zero step files a b l r = absurd (read_end (sym l.1 ∙ r))
@@ -40,7 +43,8 @@ over_decided (suc n) (suc m) step files a b l r =
     over_decided n m (λ more. step (found_in files r.0.most r.0.name ∷ more)) files a b left r.2
 
 -- the same answers lead to one outcome
-pub by_decided : (n m : ℕ) (step : List Finding → Next) (xs ys : List Answer) (a b : Outcome) → xs ≡ ys → LeadsBy n step xs a → LeadsBy m step ys b → a ≡ b
+pub by_decided : (n m : ℕ) (step : List Finding → Next) (xs ys : List Answer) (a b : Outcome) → xs ≡ ys → LeadsBy n step xs a
+    → LeadsBy m step ys b → a ≡ b
 by_decided zero zero step xs ys a b e l r = end_same (sym l.0 ∙ r.0)
 by_decided zero (suc m) step xs ys a b e l r = absurd (read_end (sym r.4 ∙ l.0))
 by_decided (suc n) zero step xs ys a b e l r = absurd (read_end (sym l.4 ∙ r.0))

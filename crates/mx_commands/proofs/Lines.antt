@@ -6,7 +6,8 @@ use Rattle.mx_commands.specs.Refusal.{fault_text, detail_text}
 
 -- the pieces of the line of a refused boot
 pub refused_parts : (n : ℕ) (table index place name : List ℕ) (d : ℕ) → table ++ index ≡ place
-    → codes "refused fault=" ++ (decimal n ++ (codes " at=" ++ (table ++ (index ++ detail_text name d)))) ≡ concat (fault_text n ∷ place ∷ detail_text name d ∷ [])
+    → codes "refused fault=" ++ (decimal n ++ (codes " at=" ++ (table ++ (index ++ detail_text name d))))
+    ≡ concat (fault_text n ∷ place ∷ detail_text name d ∷ [])
 unfolding fault_text
 refused_parts n table index place name d is =
     let detail = detail_text name d in

@@ -21,8 +21,10 @@ use Rattle.mx_commands.specs.declared.order.Way.TheVariants as way
 use Rattle.mx_plan.specs.Manifest.{judged}
 use Rattle.mx_commands.specs.Finding.{Finding, Absent, Large, Short, Broken, Whole, found_in}
 use Rattle.mx_commands.specs.Next.{Outcome, Wanted, Next, End, refusal, after_file}
-use Rattle.mx_commands.specs.Boots.{Rest, refused_by, after_files, after_inputs, image_named, image_wanted, input_named, input_wanted, manifest_file, booted, planned, after_boot}
-use Rattle.mx_commands.specs.Commands.{schedule_file, source_file, scheduled, run_of, run_from, booted_run, going, assembled, audited, after_first, assembling, auditing, comparing}
+use Rattle.mx_commands.specs.Boots.{Rest, refused_by, after_files, after_inputs, image_named, image_wanted, input_named, input_wanted}
+use Rattle.mx_commands.specs.Boots.{manifest_file, booted, planned, after_boot}
+use Rattle.mx_commands.specs.Commands.{schedule_file, source_file, scheduled, run_of, run_from, booted_run, going, assembled, audited}
+use Rattle.mx_commands.specs.Commands.{after_first, assembling, auditing, comparing}
 use Rattle.mx_commands.specs.Compared.{compared}
 use Rattle.mx_commands.specs.Resumed.{Onward, unread_by, snapshot_file, resumed, after_snapshot}
 use Rattle.mx_commands.specs.Leads.{LeadsOver}
@@ -43,14 +45,17 @@ module _ (files : FileMap) where
   by_finding file rest each (Whole bytes) = each bytes
 
   -- a file is read, and then the rest follows
-  by_file : (file : Wanted) (rest : List ℕ → List Finding → Next) → ((bytes : List ℕ) → HasOutcome (rest bytes)) → HasOutcome (after_file file rest)
+  by_file : (file : Wanted) (rest : List ℕ → List Finding → Next) → ((bytes : List ℕ) → HasOutcome (rest bytes))
+      → HasOutcome (after_file file rest)
   by_file file rest each =
       let later = by_finding file rest each (found_in files file.most file.name) in
       (later.0, (suc later.1.0, (file, refl, later.1.1)))
 
   -- the files of modules, of which each is one or none
-  by_files : {N : Type 0} (named : ModulePlan → Option N) (file : ℕ → List (List ℕ) → N → Wanted) (ms : List ModulePlan) (number : ℕ) (taken : List (List ℕ))
-      (rest : List (List ℕ) → List Finding → Next) → ((taken : List (List ℕ)) → HasOutcome (rest taken)) → HasOutcome (after_files named file number ms taken rest)
+  by_files : {N : Type 0} (named : ModulePlan → Option N) (file : ℕ → List (List ℕ) → N
+      → Wanted) (ms : List ModulePlan) (number : ℕ) (taken : List (List ℕ))
+      (rest : List (List ℕ) → List Finding → Next) → ((taken : List (List ℕ)) → HasOutcome (rest taken))
+      → HasOutcome (after_files named file number ms taken rest)
   by_files named file [] number taken rest each = each taken
   by_files named file (m ∷ ms) number taken rest each =
       elim (named m) as (λ o. HasOutcome (file_step named file o number ms taken rest)) [
@@ -72,8 +77,10 @@ module _ (files : FileMap) where
 
     by_plan : (plan : Result Said BootFault) → HasOutcome (planned side name rest plan)
     by_plan (Ok plan) =
-        by_files image_named (image_wanted side) plan.modules 1 [] (λ images. after_inputs side (4 * ram_words plan) 1 plan.modules [] (λ inputs. booted side name rest plan (boot_of plan images inputs)))
-        (λ images. by_files input_named (input_wanted side (4 * ram_words plan)) plan.modules 1 [] (λ inputs. booted side name rest plan (boot_of plan images inputs))
+        by_files image_named (image_wanted side) plan.modules 1 [] (λ images.
+        after_inputs side (4 * ram_words plan) 1 plan.modules [] (λ inputs. booted side name rest plan (boot_of plan images inputs)))
+        (λ images. by_files input_named (input_wanted side (4 * ram_words plan)) plan.modules 1 [] (λ inputs.
+        booted side name rest plan (boot_of plan images inputs))
         (λ inputs. by_state plan (boot_of plan images inputs)))
     by_plan (Err fault) = (refusal name (refused_by side (Faulty fault)), (0, refl))
 
@@ -110,4 +117,5 @@ module _ (files : FileMap) where
   pub by_comparing : (p : Pair) → HasOutcome (comparing p)
   by_comparing p =
       by_boot First p.first (after_first p)
-      (λ plan s. by_boot Second p.second (λ other t more. End (compared p plan s other t)) (λ other t. (compared p plan s other t, (0, refl))))
+      (λ plan s. by_boot Second p.second (λ other t more. End (compared p plan s other t)) (λ other t.
+      (compared p plan s other t, (0, refl))))

@@ -1,5 +1,6 @@
 -- Parts of a file, put one after another at the place of the next.
-use Rattle.std.proofs.Common.{◌≡◌, ℕ, ◌+◌, ◌-◌, ◌<◌, ◌≤◌, List, [], ◌∷◌, ◌++◌, length, take, drop, Option, Some, None, option_map, IfOk, Result, Ok, Err, refl, sym, ap, subst, ◌∙◌, inl, inr, append_assoc, length-take, length-drop, arith}
+use Rattle.std.proofs.Common.{◌≡◌, ℕ, ◌+◌, ◌-◌, ◌<◌, ◌≤◌, List, [], ◌∷◌, ◌++◌, length, take, drop, Option, Some, None, option_map, IfOk}
+use Rattle.std.proofs.Common.{Result, Ok, Err, refl, sym, ap, subst, ◌∙◌, inl, inr, append_assoc, length-take, length-drop, arith}
 use Rattle.std.specs.Result.{result_ok}
 use Rattle.std.proofs.lemmas.List.{length-take-le, append-nil, take-append-le}
 use Rattle.std.proofs.lemmas.Slice.{take-put_mid_below}
@@ -12,7 +13,8 @@ use Rattle.mx_commands.specs.Reading.{TakesPart}
 
 -- whatever rest leads on from the bytes so far leads, after these answers, on from none
 abbrev pub LeadsFrom : List ℕ → ℕ → List Answer → List ℕ → Type 0
-LeadsFrom name told answers got = (rest : List Answer) (found : Finding) → Completes name told got rest found → Completes name told [] (answers ++ rest) found
+LeadsFrom name told answers got = (rest : List Answer) (found : Finding) → Completes name told got rest found
+    → Completes name told [] (answers ++ rest) found
 
 module _ {S : Type 0} (gives : S → Answer → S → Type 0) (name : List ℕ) (told : ℕ) where
   -- so much came of the file by the answers so far
@@ -27,11 +29,13 @@ module _ {S : Type 0} (gives : S → Answer → S → Type 0) (name : List ℕ) 
   came_none s = ([], refl, λ rest found c. c)
 
   -- one more answer, after which these lead on
-  more_answers : (s m t : S) (got : List ℕ) (a : Answer) (found : Finding) → gives m a t → Completes name told got (a ∷ []) found → Came s m got → ComesTo s t found
+  more_answers : (s m t : S) (got : List ℕ) (a : Answer) (found : Finding) → gives m a t → Completes name told got (a ∷ []) found
+      → Came s m got → ComesTo s t found
   more_answers s m t got a found step last c = (c.0 ++ a ∷ [], talks_more gives s m t c.0 a c.1 step, c.2 (a ∷ []) found last)
 
   -- one more part with bytes
-  came_step : (s m t : S) (got part : List ℕ) → length got < told → 0 < length part → gives m (Gave name (length got) (told - length got) (Some part)) t → Came s m got → Came s t (got ++ part)
+  came_step : (s m t : S) (got part : List ℕ) → length got < told → 0 < length part
+      → gives m (Gave name (length got) (told - length got) (Some part)) t → Came s m got → Came s t (got ++ part)
   came_step s m t got part short more step c =
       let a = Gave name (length got) (told - length got) (Some part) in (
         c.0 ++ a ∷ [],
@@ -41,7 +45,8 @@ module _ {S : Type 0} (gives : S → Answer → S → Type 0) (name : List ℕ) 
       )
 
   -- the answer of a part, with the room that was missing
-  answer_of : (m t : S) (at : ℕ) (old : List ℕ) (part : Option (List ℕ)) → length old ≡ told → at ≤ told → gives m (Gave name at (length old - at) part) t
+  answer_of : (m t : S) (at : ℕ) (old : List ℕ) (part : Option (List ℕ)) → length old ≡ told → at ≤ told
+      → gives m (Gave name at (length old - at) part) t
       → gives m (Gave name (length (take at old)) (told - length (take at old)) part) t
   answer_of m t at old part size within step =
       let n : length (take at old) ≡ at = length-take-le at old (omega (arith, size, within)) in
@@ -54,13 +59,16 @@ module _ {S : Type 0} (gives : S → Answer → S → Type 0) (name : List ℕ) 
       let count = length-take k (drop at now) in
       let behind = length-drop at now in
       let bound = part.bound in
-      let all : take (at + k) now ≡ take at old ++ take k (drop at now) = take-add at k now ∙ ap (λ bs. bs ++ take k (drop at now)) part.front in
+      let all : take (at + k) now ≡ take at old ++ take k (drop at now) = take-add at k now
+      ∙ ap (λ bs. bs ++ take k (drop at now)) part.front in
       subst (λ (bs : List ℕ). Came s t bs) (sym all)
-      (came_step s m t (take at old) (take k (drop at now)) (omega (arith, n, short)) (omega (arith, count, behind, bound, size, same, more))
+      (came_step s m t (take at old) (take k (drop at now)) (omega (arith, n, short))
+      (omega (arith, count, behind, bound, size, same, more))
       (answer_of m t at old (Some (take k (drop at now))) size (omega (arith, short)) part.step) c)
 
   -- a part of no bytes
-  pub came_end : {E : Type 0} (s m t : S) (at : ℕ) (old now : List ℕ) → length old ≡ told → at < told → TakesPart {E = E} gives name at m t old now (Ok 0) → Came s m (take at old) → ComesTo s t (Short told at)
+  pub came_end : {E : Type 0} (s m t : S) (at : ℕ) (old now : List ℕ) → length old ≡ told → at < told
+      → TakesPart {E = E} gives name at m t old now (Ok 0) → Came s m (take at old) → ComesTo s t (Short told at)
   came_end s m t at old now size short part c =
       let n : length (take at old) ≡ at = length-take-le at old (omega (arith, size, short)) in
       let step = answer_of m t at old (Some []) size (omega (arith, short)) part.step in
@@ -68,7 +76,8 @@ module _ {S : Type 0} (gives : S → Answer → S → Type 0) (name : List ℕ) 
       (omega (arith, n, short), Some [], refl, inr (ap (Short told) (sym n), refl)) c
 
   -- a part whose reading failed
-  pub came_failed : {E : Type 0} {e : E} (s m t : S) (at : ℕ) (old now : List ℕ) → length old ≡ told → at < told → TakesPart gives name at m t old now (Err e) → Came s m (take at old) → ComesTo s t Broken
+  pub came_failed : {E : Type 0} {e : E} (s m t : S) (at : ℕ) (old now : List ℕ) → length old ≡ told → at < told
+      → TakesPart gives name at m t old now (Err e) → Came s m (take at old) → ComesTo s t Broken
   came_failed s m t at old now size short part c =
       let n : length (take at old) ≡ at = length-take-le at old (omega (arith, size, short)) in
       let step = answer_of m t at old None size (omega (arith, short)) part.step in
@@ -77,7 +86,12 @@ module _ {S : Type 0} (gives : S → Answer → S → Type 0) (name : List ℕ) 
 
   -- all of it came
   pub came_all : (s t : S) (bytes : List ℕ) → length bytes ≡ told → Came s t bytes → ComesTo s t (Whole bytes)
-  came_all s t bytes size c = (c.0, c.1, subst (λ (list : List Answer). Completes name told [] list (Whole bytes)) (append-nil c.0) (c.2 [] (Whole bytes) (size, refl)))
+  came_all s t bytes size c = (
+    c.0,
+    c.1,
+    subst (λ (list : List Answer). Completes name told [] list (Whole bytes)) (append-nil c.0)
+        (c.2 [] (Whole bytes) (size, refl)),
+  )
 
 -- what was put back in place of all of a list
 pub written_back : (n : ℕ) (now rest : List ℕ) → n ≡ length now → take n (now ++ rest) ≡ now
@@ -92,7 +106,8 @@ behind at k n bytes into within fits =
     ap (take k) whole ∙ take-append-le k into (post_of at n bytes) fits
 
 -- a call for a part into the slice from a place on
-pub takes_part : {S E : Type 0} (gives : S → Answer → S → Type 0) (name : List ℕ) (s t : S) (at : ℕ) (bytes into : List ℕ) (result : Result ℕ E) → at ≤ length bytes → length into ≡ length bytes - at
+pub takes_part : {S E : Type 0} (gives : S → Answer → S → Type 0) (name : List ℕ) (s t : S) (at : ℕ) (bytes into : List ℕ)
+    (result : Result ℕ E) → at ≤ length bytes → length into ≡ length bytes - at
     → gives s (Gave name at (length into) (option_map (λ k. take k into) (result_ok result))) t → IfOk result (λ k. k ≤ length into)
     → TakesPart gives name at s t bytes (put_mid at (length bytes - at) bytes into) result
 takes_part gives name s t at bytes into (Ok k) within size step bound =

@@ -20,7 +20,8 @@ unless_ok None s t is = if_ok (within (map_need s) s.core.limit) s t (TooFull (m
 unless_ok (Some fault) s t is = cc
 
 -- an accepted boot gives the state at boot
-pub boots : (plan : Said) (images inputs : List (List ℕ)) (t : State) → boot_of plan images inputs ≡ Ok t → t ≡ boot_state plan images inputs
+pub boots : (plan : Said) (images inputs : List (List ℕ)) (t : State) → boot_of plan images inputs ≡ Ok t
+    → t ≡ boot_state plan images inputs
 unfolding boot_of
 boots plan images inputs t is = unless_ok (first_fault plan images) (boot_state plan images inputs) t is
 
@@ -32,8 +33,10 @@ fresh plan images inputs = record {
   modules = length-map plan.modules module_of ∙ sym (length-map plan.modules (λ (m : ModulePlan). m.name));
 }
 
-pub boots_of_plan : (plan : Said) (images inputs : List (List ℕ)) (t : State) → boot_of plan images inputs ≡ Ok t → IsOfPlan (kept_of plan) (flat t)
-boots_of_plan plan images inputs t is = subst (λ (s : State). IsOfPlan (kept_of plan) (flat s)) (sym (boots plan images inputs t is)) (fresh plan images inputs)
+pub boots_of_plan : (plan : Said) (images inputs : List (List ℕ)) (t : State) → boot_of plan images inputs ≡ Ok t
+    → IsOfPlan (kept_of plan) (flat t)
+boots_of_plan plan images inputs t is = subst (λ (s : State). IsOfPlan (kept_of plan) (flat s)) (sym (boots plan images inputs t is))
+    (fresh plan images inputs)
 
 pub turns_of_plan : (kept : KeptPlan) (f : Flat) (h : ℕ) → IsOfPlan kept f → IsOfPlan kept (flat_turn f h)
 turns_of_plan kept f h is = search (arith, keeps-turned, f.core)

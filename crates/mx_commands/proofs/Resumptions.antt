@@ -20,7 +20,8 @@ use Rattle.mx_commands.proofs.Continued.{continues_end, continues_wanting}
 
 module _ {S : Type 0} (gives : S → Answer → S → Type 0) where
   -- a step that came to a later one, whose snapshot was taken up
-  pub snapshot_on : (step later : Onward → List Finding → Next) (s m t : S) (r u v : SinkState) → u ≡ r → ((rest : Onward) → Comes (step rest) gives s m (later rest))
+  pub snapshot_on : (step later : Onward → List Finding → Next) (s m t : S) (r u v : SinkState) → u ≡ r
+      → ((rest : Onward) → Comes (step rest) gives s m (later rest))
       → (result : Result Resumed Status) → TakesSnapshot gives later m t u v result → TakesSnapshot gives step s t r v result
   snapshot_on step later s m t r u v same comes (Ok x) takes =
       let goes = takes.1 in (
@@ -38,8 +39,10 @@ module _ {S : Type 0} (gives : S → Answer → S → Type 0) where
       λ rest console dump. comes rest t (sinks console r dump) (sinks console v dump) status (rw same at (takes rest console dump))
 
   -- what is stored was given back
-  pub snapshot_given : (name bytes : List ℕ) (s : S) (r : SinkState) (x : Resumed) (stored : Stored) → snapshot_of bytes ≡ Ok stored → IsResumed stored x
-      → IsOfPlan x.plan (meaning x.machine) → (meaning x.machine).core.turns ≤ 2 ^ 63 - 1 → TakesSnapshot gives (λ (rest : Onward). resumed name rest (snapshot_of bytes)) s s r r (Ok x)
+  pub snapshot_given : (name bytes : List ℕ) (s : S) (r : SinkState) (x : Resumed) (stored : Stored) → snapshot_of bytes ≡ Ok stored
+      → IsResumed stored x
+      → IsOfPlan x.plan (meaning x.machine) → (meaning x.machine).core.turns ≤ 2 ^ 63 - 1
+      → TakesSnapshot gives (λ (rest : Onward). resumed name rest (snapshot_of bytes)) s s r r (Ok x)
   snapshot_given name bytes s r x stored is back of few = (
     refl,
     record {
@@ -57,7 +60,9 @@ module _ {S : Type 0} (gives : S → Answer → S → Type 0) where
       → ((console dump : SinkState) → Ends (refusal name (unread_by why)) (sinks console r dump) (sinks console u dump) status)
       → TakesSnapshot gives (λ (rest : Onward). resumed name rest (snapshot_of bytes)) s s r u (Err status)
   snapshot_refused name bytes s r u why is status ends = λ rest console dump.
-      rw is (continues_end gives (λ found. End (refusal name (unread_by why))) (refusal name (unread_by why)) refl s (inl (ends console dump)))
+      rw is (continues_end gives (λ found. End (refusal name (unread_by why))) (refusal name (unread_by why)) refl s
+      (inl (ends console dump)))
 
   pub snapshot_wanting : (step : Onward → List Finding → Next) (s : S) (r : SinkState) → TakesSnapshot gives step s s r r (Err WantOfMemory)
-  snapshot_wanting step s r rest console dump = continues_wanting gives (step rest) s refl (record { console = refl; report = refl; dump = refl })
+  snapshot_wanting step s r rest console dump = continues_wanting gives (step rest) s refl
+      (record { console = refl; report = refl; dump = refl })

@@ -20,34 +20,47 @@ use Rattle.mx_commands.proofs.StepCauses.{status_same}
 
 -- where these findings end a step with `Refused`, it is for the schedule's size
 abbrev pub IsForSchedule : (List Finding → Next) → List Finding → Type 0
-IsForSchedule step found = (outcome : Outcome) (fault : BootFault) → step found ≡ End outcome → outcome.status ≡ Refused fault → fault ≡ size_fault part.Schedule 0 key.NoKey
+IsForSchedule step found = (outcome : Outcome) (fault : BootFault) → step found ≡ End outcome → outcome.status ≡ Refused fault
+    → fault ≡ size_fault part.Schedule 0 key.NoKey
 
 -- where a call ends well
-other : (outcome ended : Outcome) (fault : BootFault) → End ended ≡ End outcome → ended.status ≡ Ran → outcome.status ≡ Refused fault → Ran ≡ Refused fault
+other : (outcome ended : Outcome) (fault : BootFault) → End ended ≡ End outcome → ended.status ≡ Ran → outcome.status ≡ Refused fault
+    → Ran ≡ Refused fault
 other outcome ended fault end is refused = sym is ∙ sym (status_same end) ∙ refused
 
-schedule_refused : (quantum : ℕ) (made : Schedule → Outcome) → ((schedule : Schedule) → (made schedule).status ≡ Ran) → (name : Option (List ℕ)) (found : List Finding)
+schedule_refused : (quantum : ℕ) (made : Schedule → Outcome) → ((schedule : Schedule) → (made schedule).status ≡ Ran)
+    → (name : Option (List ℕ)) (found : List Finding)
     → IsForSchedule (scheduled quantum made name) found
 schedule_refused quantum made ran None found outcome fault end refused =
     let e : Ran ≡ Refused fault = other outcome (made (ByQuantum quantum)) fault end (ran (ByQuantum quantum)) refused in cc
 schedule_refused quantum made ran (Some name) [] outcome fault end refused = absurd (read_end end)
-schedule_refused quantum made ran (Some name) (Absent ∷ more) outcome fault end refused = let e : NoFile ScheduleRole ≡ Refused fault = sym (status_same end) ∙ refused in cc
-schedule_refused quantum made ran (Some name) (Large ∷ more) outcome fault end refused = let e : Refused (size_fault part.Schedule 0 key.NoKey) ≡ Refused fault = sym (status_same end) ∙ refused in cc
-schedule_refused quantum made ran (Some name) (Short told got ∷ more) outcome fault end refused = let e : ShortFile ScheduleRole told got ≡ Refused fault = sym (status_same end) ∙ refused in cc
-schedule_refused quantum made ran (Some name) (Broken ∷ more) outcome fault end refused = let e : StoreFault ≡ Refused fault = sym (status_same end) ∙ refused in cc
+schedule_refused quantum made ran (Some name) (Absent ∷ more) outcome fault end refused = let e : NoFile ScheduleRole ≡ Refused fault =
+    sym (status_same end) ∙ refused in cc
+schedule_refused quantum made ran (Some name) (Large ∷ more) outcome fault end refused =
+    let e : Refused (size_fault part.Schedule 0 key.NoKey) ≡ Refused fault = sym (status_same end) ∙ refused in cc
+schedule_refused quantum made ran (Some name) (Short told got ∷ more) outcome fault end refused =
+    let e : ShortFile ScheduleRole told got ≡ Refused fault = sym (status_same end) ∙ refused in cc
+schedule_refused quantum made ran (Some name) (Broken ∷ more) outcome fault end refused = let e : StoreFault ≡ Refused fault =
+    sym (status_same end) ∙ refused in cc
 schedule_refused quantum made ran (Some name) (Whole bytes ∷ more) outcome fault end refused =
     let e : Ran ≡ Refused fault = other outcome (made (ByBytes bytes)) fault end (ran (ByBytes bytes)) refused in cc
 
-stored_refused : (o : Order) (stored : Result Stored Unread) (found : List Finding) → IsForSchedule (resumed o.file (run_from o) stored) found
+stored_refused : (o : Order) (stored : Result Stored Unread) (found : List Finding)
+    → IsForSchedule (resumed o.file (run_from o) stored) found
 stored_refused o (Ok stored) found outcome fault end refused =
-    schedule_refused (plan_of stored).quantum (run_of o (plan_of stored) (state_of stored)) (λ schedule. refl) o.schedule found outcome fault end refused
-stored_refused o (Err (FaultAt at number)) found outcome fault end refused = let e : SnapshotFault at number ≡ Refused fault = sym (status_same end) ∙ refused in cc
-stored_refused o (Err (NeedsMore need limit)) found outcome fault end refused = let e : TablesFull need limit ≡ Refused fault = sym (status_same end) ∙ refused in cc
+    schedule_refused (plan_of stored).quantum (run_of o (plan_of stored) (state_of stored)) (λ schedule. refl) o.schedule found outcome
+    fault end refused
+stored_refused o (Err (FaultAt at number)) found outcome fault end refused = let e : SnapshotFault at number ≡ Refused fault =
+    sym (status_same end) ∙ refused in cc
+stored_refused o (Err (NeedsMore need limit)) found outcome fault end refused = let e : TablesFull need limit ≡ Refused fault =
+    sym (status_same end) ∙ refused in cc
 
 pub run_refused : (o : Order) (found : List Finding) → IsForSchedule (resumed_run o) found
 run_refused o [] outcome fault end refused = absurd (read_end end)
-run_refused o (Absent ∷ more) outcome fault end refused = let e : NoFile SnapshotRole ≡ Refused fault = sym (status_same end) ∙ refused in cc
+run_refused o (Absent ∷ more) outcome fault end refused = let e : NoFile SnapshotRole ≡ Refused fault = sym (status_same end) ∙ refused in
+    cc
 run_refused o (Large ∷ more) outcome fault end refused = let e : SnapshotFault 0 1 ≡ Refused fault = sym (status_same end) ∙ refused in cc
-run_refused o (Short told got ∷ more) outcome fault end refused = let e : ShortFile SnapshotRole told got ≡ Refused fault = sym (status_same end) ∙ refused in cc
+run_refused o (Short told got ∷ more) outcome fault end refused = let e : ShortFile SnapshotRole told got ≡ Refused fault =
+    sym (status_same end) ∙ refused in cc
 run_refused o (Broken ∷ more) outcome fault end refused = let e : StoreFault ≡ Refused fault = sym (status_same end) ∙ refused in cc
 run_refused o (Whole bytes ∷ more) outcome fault end refused = stored_refused o (snapshot_of bytes) more outcome fault end refused

@@ -7,12 +7,19 @@ use Rattle.mx_commands.specs.Finding.{Finding, Completes, Finds}
 use Rattle.mx_commands.specs.Reading.{ReadsFile, ReadsTold}
 
 module _ {S : Type 0} (gives : S → Answer → S → Type 0) (most : ℕ) (name : List ℕ) (s m t : S) where
-  reads_on : (told : ℕ) (found : Finding) → told ≤ most → gives s (Sized name (Some (Some told))) m → ((answers : List Answer) × Talks gives m answers t × Completes name told [] answers found)
+  reads_on : (told : ℕ) (found : Finding) → told ≤ most → gives s (Sized name (Some (Some told))) m
+      → ((answers : List Answer) × Talks gives m answers t × Completes name told [] answers found)
       → (answers : List Answer) × Talks gives s answers t × Finds most name answers found
-  reads_on told found fits step rest = (Sized name (Some (Some told)) ∷ rest.0, (m, step, rest.1), (Some (Some told), refl, inr (fits, rest.2)))
+  reads_on told found fits step rest = (
+    Sized name (Some (Some told))
+        ∷ rest.0,
+    (m, step, rest.1),
+    (Some (Some told), refl, inr (fits, rest.2)),
+  )
 
   -- a size within the limit, and then what was read
-  pub reads_told : (told : ℕ) → told ≤ most → gives s (Sized name (Some (Some told))) m → (result : Result (Vec ℕ Global) ReadFault) → ReadsTold gives told name m t result → ReadsFile gives most name s t result
+  pub reads_told : (told : ℕ) → told ≤ most → gives s (Sized name (Some (Some told))) m → (result : Result (Vec ℕ Global) ReadFault)
+      → ReadsTold gives told name m t result → ReadsFile gives most name s t result
   reads_told told fits step (Ok bytes) rest = reads_on told _ fits step rest
   reads_told told fits step (Err fault.Absent) rest = reads_on told _ fits step rest
   reads_told told fits step (Err fault.Large) rest = reads_on told _ fits step rest

@@ -11,7 +11,7 @@ abbrev pub order_of : orders.Order → Order
 order_of o = record {
   way = o.way;
   file = o.file.now;
-  steps = o.steps;
+  steps = o.steps.count;
   schedule = option_copied o.schedule;
   shown = o.shown;
 }
@@ -22,7 +22,7 @@ pair_asked p = record {
   first = p.first.now;
   second = p.second.now;
   domain = p.domain;
-  steps = p.steps;
+  steps = p.steps.count;
 }
 
 -- the file that is to be read

@@ -2,6 +2,7 @@
 -- state, or the call ends with the side's one refusal.
 -- The rules: docs/COMMANDS.md, "The manifest".
 use Rattle.std.specs.Prelude.{◌≡◌, ℕ, ◌+◌, ◌-◌, ◌*◌, min, List, [], ◌∷◌, ◌++◌, length, sum_by, Option, Some, None, Result, Ok, Err}
+use Rattle.mx_words.specs.Limits.{most_text_bytes, most_file_bytes}
 use Rattle.mx_model.specs.State.{State}
 use Rattle.mx_manifest.specs.declared.fault.BootFault.{BootFault}
 use Rattle.mx_manifest.specs.declared.fault.Key.{Key}
@@ -21,7 +22,7 @@ use Rattle.mx_commands.specs.declared.status.Status.{Status}
 use Rattle.mx_commands.specs.declared.status.Status.TheVariants.{Refused, TablesFull, SecondRefused, SecondTablesFull}
 use Rattle.mx_plan.specs.Manifest.{judged}
 use Rattle.mx_commands.specs.Finding.{Finding}
-use Rattle.mx_commands.specs.Next.{Wanted, Next, End, after_file, refusal, text_limit, file_limit}
+use Rattle.mx_commands.specs.Next.{Wanted, Next, End, after_file, refusal}
 
 -- the status of a side's refusal
 abbrev pub refused_by : Side → Refusal → Status
@@ -57,7 +58,7 @@ abbrev pub manifest_file : Side → List ℕ → Wanted
 manifest_file side name = record {
   role = manifest_role side;
   name = name;
-  most = text_limit;
+  most = most_text_bytes;
   large = refused_by side (Faulty (size_fault part.Manifest 0 key.NoKey));
 }
 
@@ -65,7 +66,7 @@ abbrev pub image_file : Side → ℕ → List ℕ → Wanted
 image_file side number name = record {
   role = image_role side number;
   name = name;
-  most = file_limit;
+  most = most_file_bytes;
   large = refused_by side (Faulty (size_fault part.Module number key.Image));
 }
 

@@ -2,6 +2,7 @@
 -- The rules: docs/COMMANDS.md, "What is judged first".
 use Rattle.std.specs.Prelude.{ℕ, if◌then◌else◌, List, [], Option, Some, None, unwrap_or}
 use Rattle.std.specs.Str.{is_utf8}
+use Rattle.mx_words.specs.Limits.{most_text_bytes, most_file_bytes}
 use Rattle.mx_model.specs.Run.{Schedule, ByQuantum, ByBytes}
 use Rattle.mx_model.specs.State.{State, flat}
 use Rattle.mx_manifest.specs.declared.fault.Key.TheVariants as key
@@ -24,7 +25,7 @@ use Rattle.mx_commands.specs.Order.{Order, Pair}
 use Rattle.mx_commands.specs.declared.order.Way.{Way}
 use Rattle.mx_commands.specs.declared.order.Way.TheVariants as way
 use Rattle.mx_commands.specs.Finding.{Finding}
-use Rattle.mx_commands.specs.Next.{Outcome, Wanted, Next, End, after_file, refusal, reported, text_limit, file_limit}
+use Rattle.mx_commands.specs.Next.{Outcome, Wanted, Next, End, after_file, refusal, reported}
 use Rattle.mx_commands.specs.Boots.{size_fault, refused_by, after_boot}
 use Rattle.mx_commands.specs.Compared.{compared}
 use Rattle.mx_commands.specs.Resumed.{after_snapshot}
@@ -34,12 +35,12 @@ abbrev pub schedule_file : List ℕ → Wanted
 schedule_file name = record {
   role = ScheduleRole;
   name = name;
-  most = file_limit;
+  most = most_file_bytes;
   large = refused_by First (Faulty (size_fault part.Schedule 0 key.NoKey));
 }
 
 abbrev pub source_file : List ℕ → Wanted
-source_file name = record { role = Source; name = name; most = text_limit; large = AsmFault 0 11 }
+source_file name = record { role = Source; name = name; most = most_text_bytes; large = AsmFault 0 11 }
 
 -- the schedule of a quantum, or of the bytes of a schedule file
 abbrev pub schedule_by : ℕ → Option (List ℕ) → Schedule

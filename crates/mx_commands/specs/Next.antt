@@ -61,10 +61,3 @@ unless file (Some status) whole = End (refusal file.name status)
 abbrev pub after_file : Wanted → (List ℕ → List Finding → Next) → List Finding → Next
 after_file file rest [] = Read file
 after_file file rest (found ∷ more) = unless file (lack_of file found) (rest (bytes_of found) more)
-
--- the most bytes of a manifest or of a source, and of an image or of a schedule
-abbrev pub text_limit : ℕ
-text_limit = 1048576
-
-abbrev pub file_limit : ℕ
-file_limit = 16777216

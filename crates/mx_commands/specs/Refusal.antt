@@ -10,7 +10,9 @@ use Rattle.mx_manifest.specs.declared.fault.Part.{Part}
 use Rattle.mx_manifest.specs.declared.fault.Part.TheVariants as part
 use Rattle.mx_manifest.specs.Keys.{key_text}
 use Rattle.mx_commands.specs.declared.status.Status.{Status}
-use Rattle.mx_commands.specs.declared.status.Status.TheVariants.{Ran, Usage, Refused, TablesFull, StoreFault, ShortFile, NoFile, ConsoleFault, ReportFault, DumpFault, WantOfMemory, AsmFault, Unlike, NoDomain, SecondRefused, SecondTablesFull, SnapshotFault}
+use Rattle.mx_commands.specs.declared.status.Status.TheVariants.{Ran, Usage, Refused, TablesFull, StoreFault, ShortFile, NoFile}
+use Rattle.mx_commands.specs.declared.status.Status.TheVariants.{ConsoleFault, ReportFault, DumpFault, WantOfMemory, AsmFault, Unlike}
+use Rattle.mx_commands.specs.declared.status.Status.TheVariants.{NoDomain, SecondRefused, SecondTablesFull, SnapshotFault}
 
 -- the text of a table of the manifest, or of the schedule
 unfoldable pub place_text : Part → ℕ → List ℕ

@@ -2,8 +2,8 @@
 -- ends with its one refusal.
 -- The rules: docs/COMMANDS.md, "The snapshot".
 use Rattle.std.specs.Prelude.{ℕ, List, Result, Ok, Err}
+use Rattle.mx_words.specs.Limits.{most_snapshot_bytes}
 use Rattle.mx_model.specs.State.{State}
-use Rattle.mx_snapshot.specs.Fields.{most_bytes}
 use Rattle.mx_snapshot.specs.Kept.{KeptPlan}
 use Rattle.mx_snapshot.specs.Resumed.{plan_of, state_of}
 use Rattle.mx_snapshot.specs.Stored.{Stored}
@@ -19,7 +19,7 @@ abbrev pub snapshot_file : List ℕ → Wanted
 snapshot_file name = record {
   role = Snapshot;
   name = name;
-  most = most_bytes;
+  most = most_snapshot_bytes;
   large = SnapshotFault 0 1;
 }
 

@@ -7,7 +7,8 @@ ghost use Rattle.mx_boot.specs.Faults.{ram_words};
 ghost use Rattle.mx_boot.specs.Inputs.{AreInputs, FitsArea};
 ghost use Rattle.mx_manifest.specs.InRange.{IsInput};
 ghost use Rattle.mx_plan.specs.Manifest.{judged};
-ghost use Rattle.mx_commands.specs.Boots.{Load, after_boot, after_inputs, after_load, booted, loaded, image_named, image_wanted, input_named, input_wanted, total};
+ghost use Rattle.mx_commands.specs.Boots.{Load, after_boot, after_inputs, after_load, booted, loaded, image_named};
+ghost use Rattle.mx_commands.specs.Boots.{image_wanted, input_named, input_wanted, total};
 ghost use Rattle.mx_commands.specs.Booting.{TakesBoot, TakesFile, TakesFiles, TakesLoaded, files_of};
 
 use crate::refusal::refuse;

@@ -24,6 +24,7 @@ use crate::status::Status;
 use mx_any::AnyMachine;
 use mx_io::{Failed, Sink, Store};
 use mx_manifest::{Key, Plan};
+use mx_turns::Steps;
 use mx_twin::{run_twin, twin_line};
 use std::alloc::Global;
 
@@ -36,7 +37,6 @@ pub fn compare_manifests<S: Store, R: Sink>(
     store: &mut S,
     report: &mut R,
 ) -> Status
-    requires { pair.now.steps < 10 ^ 10 }
     ensures { (console dump : SinkState) →
         Continues (comparing (pair_asked pair.now)) S.gives store.old store.new
         (sinks console (R.state report.old) dump) (sinks console (R.state report.new) dump) result }
@@ -55,7 +55,6 @@ fn compare_with<S: Store, R: Sink>(
     store: &mut S,
     report: &mut R,
 ) -> Status
-    requires few { pair.now.steps < 10 ^ 10 }
     requires size { IsOfSize first.plan (meaning first.machine) }
     ensures { (s : State) → meaning first.machine ≡ flat s → (console dump : SinkState) →
         Continues (after_first (pair_asked pair.now) first.plan s) S.gives store.old store.new
@@ -73,7 +72,6 @@ fn compare_with<S: Store, R: Sink>(
 
 // Compares two machines at boot, which end then.
 fn compare_booted<R: Sink>(pair: &Pair<'_>, first: Booted, second: Booted, report: &mut R) -> Status
-    requires few { pair.now.steps < 10 ^ 10 }
     requires size { IsOfSize first.plan (meaning first.machine) }
     requires second { IsOfSize second.plan (meaning second.machine) }
     ensures { (s t : State) → meaning first.machine ≡ flat s → meaning second.machine ≡ flat t →
@@ -100,7 +98,6 @@ fn compare_plans<R: Sink>(
     twin: &mut AnyMachine,
     report: &mut R,
 ) -> Status
-    requires few { pair.now.steps < 10 ^ 10 }
     requires size { IsOfSize plan.now (meaning machine.old) }
     requires second { IsOfSize other.now (meaning twin.old) }
     ensures { (s t : State) → meaning machine.old ≡ flat s → meaning twin.old ≡ flat t →
@@ -121,7 +118,6 @@ fn compare_alike<R: Sink>(
     twin: &mut AnyMachine,
     report: &mut R,
 ) -> Status
-    requires few { pair.now.steps < 10 ^ 10 }
     requires alike { AreAlike (meaning machine.old) (meaning twin.old) }
     requires size { IsOfSize plan.now (meaning machine.old) }
     requires unmoved { (meaning twin.old).core.turns ≡ 0 }
@@ -141,21 +137,20 @@ fn watch<R: Sink>(
     twin: &mut AnyMachine,
     domain: u32,
     quantum: u32,
-    steps: u64,
+    steps: Steps,
     report: &mut R,
 ) -> Status
     requires alike { AreAlike (meaning machine.old) (meaning twin.old) }
     requires domain { IsModule (length (meaning machine.old).core.modules) domain }
     requires quantum { 1 ≤ quantum }
-    requires few { steps < 10 ^ 10 }
     requires first { (meaning machine.old).core.turns ≡ 0 }
     requires second { (meaning twin.old).core.turns ≡ 0 }
-    ensures { (console dump : SinkState) → Ends (reported (twin_line steps
-        (twins domain quantum steps (meaning machine.old) (meaning twin.old))))
+    ensures { (console dump : SinkState) → Ends (reported (twin_line steps.count
+        (twins domain quantum steps.count (meaning machine.old) (meaning twin.old))))
         (sinks console (R.state report.old) dump) (sinks console (R.state report.new) dump) result }
 {
-    let end = run_twin(machine, twin, domain, quantum, steps);
-    match twin_line(report, steps, end) {
+    let end = run_twin(machine, twin, domain, quantum, steps.count);
+    match twin_line(report, steps.count, end) {
         Ok(()) => Status::Ran,
         Err(Failed) => Status::ReportFault,
     }

@@ -1,6 +1,6 @@
 //! What a run and a comparison are asked.
 
-use mx_turns::Dump;
+use mx_turns::{Dump, Steps};
 
 /// How a run is made.
 #[derive(Clone, Copy, PartialEq, Eq)]
@@ -20,8 +20,8 @@ pub struct Order<'a> {
     pub way: Way,
     /// The name of the manifest, or of the snapshot.
     pub file: &'a str,
-    /// The most steps to make, at most 9999999999.
-    pub steps: u64,
+    /// The most steps to make.
+    pub steps: Steps,
     /// The schedule's name; with none the harts take turns by the plan's quantum.
     pub schedule: Option<&'a str>,
     /// What is shown of it.
@@ -52,6 +52,6 @@ pub struct Pair<'a> {
     pub second: &'a str,
     /// The number of the domain that is compared, from 1, at most 9999999999.
     pub domain: u64,
-    /// The most steps to make, at most 9999999999.
-    pub steps: u64,
+    /// The most steps to make.
+    pub steps: Steps,
 }

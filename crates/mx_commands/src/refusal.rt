@@ -3,7 +3,9 @@
 ghost use Rattle.std.specs.Prelude.{◌≡◌, [], ◌++◌, unwrap_or};
 ghost use Rattle.mx_io.specs.Sink.{SinkState, Puts};
 ghost use Rattle.mx_io.specs.Piece.{piece_text};
-ghost use Rattle.mx_commands.specs.Refusal.{line_of, refused_line, place_text, tables_full_line, short_file_line, no_file_line, usage_line, store_fault_line, asm_fault_line, unlike_line, no_domain_line, snapshot_fault_line};
+ghost use Rattle.mx_commands.specs.Refusal.{line_of, refused_line, place_text, tables_full_line, short_file_line};
+ghost use Rattle.mx_commands.specs.Refusal.{no_file_line, usage_line, store_fault_line, asm_fault_line, unlike_line};
+ghost use Rattle.mx_commands.specs.Refusal.{no_domain_line, snapshot_fault_line};
 ghost use Rattle.mx_commands.specs.Next.{refusal};
 ghost use Rattle.mx_turns.specs.Ends.{sinks};
 ghost use Rattle.mx_commands.specs.Ends.{Ends};

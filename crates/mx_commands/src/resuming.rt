@@ -38,7 +38,6 @@ pub fn resume_snapshot<S: Store, C: Sink, R: Sink, D: Sink>(
     report: &mut R,
     dump: &mut D,
 ) -> Status
-    requires { order.now.steps < 10 ^ 10 }
     ensures { Continues (resumed_run (order_of order.now)) S.gives store.old store.new
         (sinks (C.state console.old) (R.state report.old) (D.state dump.old))
         (sinks (C.state console.new) (R.state report.new) (D.state dump.new)) result }
@@ -59,7 +58,6 @@ fn run_taken<S: Store, C: Sink, R: Sink, D: Sink>(
     report: &mut R,
     dump: &mut D,
 ) -> Status
-    requires few { order.now.steps < 10 ^ 10 }
     requires plan { IsOfPlan taken.plan (meaning taken.machine) }
     requires turns { (meaning taken.machine).core.turns ≤ 2 ^ 63 - 1 }
     ensures { (s : State) → IsNew s → meaning taken.machine ≡ flat s
@@ -82,7 +80,8 @@ fn run_taken<S: Store, C: Sink, R: Sink, D: Sink>(
     status
 }
 
-// The machine and the plan of the snapshot of this name, or the end of the call: the line of the refusal is the whole report.
+// The machine and the plan of the snapshot of this name, or the end of the call: the line of the refusal is the whole
+// report.
 fn take_snapshot<S: Store, R: Sink>(
     alloc: Global,
     name: &str,

@@ -1,4 +1,5 @@
-//! The commands `run` and `trace`: a machine boots, makes its turns, and writes its texts; and the run that any machine makes.
+//! The commands `run` and `trace`: a machine boots, makes its turns, and writes its texts; and the run that any machine
+//! makes.
 
 ghost use Rattle.std.specs.Prelude.{◌≡◌, ◌+◌, ◌-◌, ◌<◌, ◌^◌, IfOk, map, unwrap_or};
 ghost use Rattle.std.specs.Option.{option_copied};
@@ -40,7 +41,6 @@ pub fn run_manifest<S: Store, C: Sink, R: Sink, D: Sink>(
     report: &mut R,
     dump: &mut D,
 ) -> Status
-    requires { order.now.steps < 10 ^ 10 }
     ensures { Continues (booted_run (order_of order.now)) S.gives store.old store.new
         (sinks (C.state console.old) (R.state report.old) (D.state dump.old))
         (sinks (C.state console.new) (R.state report.new) (D.state dump.new)) result }
@@ -61,7 +61,6 @@ fn run_boot<S: Store, C: Sink, R: Sink, D: Sink>(
     report: &mut R,
     dump: &mut D,
 ) -> Status
-    requires few { order.now.steps < 10 ^ 10 }
     requires plan { IsOfPlan (kept_of booted.plan) (meaning booted.machine) }
     requires unmoved { (meaning booted.machine).core.turns ≡ 0 }
     ensures { (s : State) → IsNew s → meaning booted.machine ≡ flat s
@@ -111,7 +110,7 @@ pub(crate) fn run_from<S: Store, C: Sink, R: Sink, D: Sink>(
     report: &mut R,
     dump: &mut D,
 ) -> Status
-    requires few { (meaning machine.old).core.turns + order.now.steps < 2 ^ 64 - 1 }
+    requires few { (meaning machine.old).core.turns + order.now.steps.count < 2 ^ 64 - 1 }
     requires plan { IsOfPlan kept.now (meaning machine.old) }
     ensures { (s : State) → IsNew s → meaning machine.old ≡ flat s
         → Continues (run_from (order_of order.now) kept.now s) S.gives store.old store.new
@@ -193,7 +192,7 @@ fn run_by<C: Sink, R: Sink, D: Sink>(
     report: &mut R,
     dump: &mut D,
 ) -> Status
-    requires few { (meaning machine.old).core.turns + order.now.steps < 2 ^ 64 - 1 }
+    requires few { (meaning machine.old).core.turns + order.now.steps.count < 2 ^ 64 - 1 }
     requires names { map (λ name. name.now) names.now ≡ kept.now.names }
     requires quantum { HasTurns schedule }
     requires plan { IsOfPlan kept.now (meaning machine.old) }
@@ -219,7 +218,7 @@ fn make_by<C: Sink, R: Sink, D: Sink>(
     report: &mut R,
     dump: &mut D,
 ) -> Result<(), SinkFault>
-    requires few { (meaning machine.old).core.turns + order.now.steps < 2 ^ 64 - 1 }
+    requires few { (meaning machine.old).core.turns + order.now.steps.count < 2 ^ 64 - 1 }
     requires names { map (λ name. name.now) names.now ≡ kept.now.names }
     requires quantum { HasTurns schedule }
     requires plan { IsOfPlan kept.now (meaning machine.old) }
@@ -243,13 +242,13 @@ fn make_by<C: Sink, R: Sink, D: Sink>(
 }
 
 fn task_of<'a>(order: &Order<'_>, schedule: Schedule<'a>) -> Task<'a>
-    ensures steps { result.steps ≡ order.now.steps }
+    ensures steps { result.steps ≡ order.now.steps.count }
     ensures schedule { result.schedule ≡ schedule.entry }
     ensures options { result.options ≡ options_of (order_of order.now) }
     ensures dump { result.dump ≡ order.now.shown.dump }
 {
     Task {
-        steps: order.steps,
+        steps: order.steps.count,
         schedule,
         options: Options {
             tables: order.shown.tables,
@@ -260,12 +259,12 @@ fn task_of<'a>(order: &Order<'_>, schedule: Schedule<'a>) -> Task<'a>
 }
 
 fn trace_of<'a>(order: &Order<'_>, schedule: Schedule<'a>) -> TraceTask<'a>
-    ensures steps { result.steps ≡ order.now.steps }
+    ensures steps { result.steps ≡ order.now.steps.count }
     ensures schedule { result.schedule ≡ schedule.entry }
     ensures lines { result.lines ≡ lines_of (order_of order.now) }
 {
     TraceTask {
-        steps: order.steps,
+        steps: order.steps.count,
         schedule,
         lines: lines_of(order),
     }

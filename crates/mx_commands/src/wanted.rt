@@ -16,16 +16,8 @@ use crate::side::{Side, image_role, input_role, manifest_role, refused};
 use crate::status::{FileRole, Status};
 use mx_io::{Sink, Store};
 use mx_manifest::{BootFault, InputPlan, Key, Part, Place};
+use mx_words::{MOST_FILE_BYTES, MOST_SNAPSHOT_BYTES, MOST_TEXT_BYTES};
 use std::alloc::Global;
-
-/// The most bytes of a manifest or of a source.
-const TEXT_LIMIT: u64 = 1048576;
-
-/// The most bytes of an image or of a schedule.
-const FILE_LIMIT: u64 = 16777216;
-
-/// The most bytes of a snapshot.
-const SNAPSHOT_LIMIT: u64 = 1073741824;
 
 /// A file that is to be read.
 #[derive(Clone, Copy)]
@@ -47,7 +39,7 @@ pub(crate) fn manifest_file(side: Side, name: &str) -> Wanted<'_>
     Wanted {
         role: manifest_role(side),
         name,
-        most: TEXT_LIMIT,
+        most: MOST_TEXT_BYTES,
         large: refused(side, size_fault(Part::Manifest, 0, Key::NoKey)),
     }
 }
@@ -59,12 +51,13 @@ pub(crate) fn image_file(side: Side, number: u32, name: &str) -> Wanted<'_>
     Wanted {
         role: image_role(side, number),
         name,
-        most: FILE_LIMIT,
+        most: MOST_FILE_BYTES,
         large: refused(side, size_fault(Part::Module, number, Key::Image)),
     }
 }
 
-/// The input of a side's module with this number from 1, of at most as many bytes as its area holds behind the word that
+/// The input of a side's module with this number from 1, of at most as many bytes as its area holds behind the word
+/// that
 /// tells their number, and as are left of RAM's bytes by the inputs before it.
 pub(crate) fn input_file<'a>(side: Side, number: u32, left: u64, input: &'a InputPlan) -> Wanted<'a>
     requires { IsInput input.now }
@@ -87,7 +80,7 @@ pub(crate) fn schedule_file(name: &str) -> Wanted<'_>
     Wanted {
         role: FileRole::Schedule,
         name,
-        most: FILE_LIMIT,
+        most: MOST_FILE_BYTES,
         large: refused(Side::First, size_fault(Part::Schedule, 0, Key::NoKey)),
     }
 }
@@ -99,7 +92,7 @@ pub(crate) fn source_file(name: &str) -> Wanted<'_>
     Wanted {
         role: FileRole::Source,
         name,
-        most: TEXT_LIMIT,
+        most: MOST_TEXT_BYTES,
         large: Status::AsmFault {
             line: 0,
             number: 11,
@@ -114,7 +107,7 @@ pub(crate) fn snapshot_file(name: &str) -> Wanted<'_>
     Wanted {
         role: FileRole::Snapshot,
         name,
-        most: SNAPSHOT_LIMIT,
+        most: MOST_SNAPSHOT_BYTES,
         large: Status::SnapshotFault { at: 0, number: 1 },
     }
 }

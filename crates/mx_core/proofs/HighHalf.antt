@@ -1,5 +1,6 @@
 -- The high half of a signed product, computed in 64 bits.
-use Rattle.std.proofs.Common.{◌≡◌, ℕ, ◌^◌, ◌-◌, ◌<◌, ◌≤◌, ℤ, pos, negsuc, ◌*ℤ◌, unsigned_abs, FitsSigned, w32, w64, to_z, of_z, arith, rules, ◌∙◌}
+use Rattle.std.proofs.Common.{◌≡◌, ℕ, ◌^◌, ◌-◌, ◌<◌, ◌≤◌, ℤ, pos, negsuc, ◌*ℤ◌, unsigned_abs, FitsSigned, w32, w64, to_z, of_z, arith}
+use Rattle.std.proofs.Common.{rules, ◌∙◌}
 use Rattle.std.proofs.lemmas.Int.{to_z-of_z, fits_signed_mul, fits_signed_from_abs}
 use Rattle.std.specs.Int.{int_shr}
 use Rattle.mx_model.specs.Effect.{wrapped, high}
@@ -37,7 +38,9 @@ high-half x y r f g product e =
     let half64 : FitsSigned w64 (int_shr (x *ℤ y) 32) = FitsSigned-wider (int_shr (x *ℤ y) 32) half in
     (simp to_z-of_z at e) ∙ of_z-wrapped (int_shr (x *ℤ y) 32) half
 
-pub high-product : (x y : ℤ) (r : ℕ) → FitsSigned w32 x → FitsSigned w32 y → r ≡ of_z w32 (to_z w32 (of_z w32 (to_z w64 (of_z w64 (int_shr (to_z w64 (of_z w64 (to_z w64 (of_z w64 x) *ℤ to_z w64 (of_z w64 y)))) 32))))) → r ≡ high (x *ℤ y)
+pub high-product : (x y : ℤ) (r : ℕ) → FitsSigned w32 x → FitsSigned w32 y
+    → r ≡ of_z w32 (to_z w32 (of_z w32 (to_z w64 (of_z w64 (int_shr (to_z w64 (of_z w64 (to_z w64 (of_z w64 x) *ℤ to_z w64 (of_z w64 y))))
+    32))))) → r ≡ high (x *ℤ y)
 high-product x y r f g e =
     let product : FitsSigned w64 (x *ℤ y) =
     fits_signed_mul w64 x y (2 ^ 31) (2 ^ 31) (unsigned_abs-le x f) (unsigned_abs-le y g) (omega arith) in

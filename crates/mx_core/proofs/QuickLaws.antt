@@ -20,11 +20,13 @@ staying-is (Some i) inst e = by (stays i) refl e
     by false s q = absurd (let z : ⊥ = cc in z)
 
 -- an allowed fetch comes to the instruction's effect
-pub fetched-quick : (perm : ℕ → Perm) (bytes regs : List ℕ) (pc : ℕ) (inst : Inst) → denied perm pc Execute ≡ false → quick (load_at bytes pc 4) ≡ Some inst →
+pub fetched-quick : (perm : ℕ → Perm) (bytes regs : List ℕ) (pc : ℕ) (inst : Inst) → denied perm pc Execute ≡ false
+    → quick (load_at bytes pc 4) ≡ Some inst →
     fetched perm bytes regs pc ≡ effect inst regs pc
 unfolding fetched
 fetched-quick perm bytes regs pc inst allowed q =
-    ap (after_fetch bytes regs pc) allowed ∙ ap (effect_of regs pc (load_at bytes pc 4)) (staying-is (decoded (load_at bytes pc 4)) inst q).0
+    ap (after_fetch bytes regs pc) allowed ∙ ap (effect_of regs pc (load_at bytes pc 4))
+    (staying-is (decoded (load_at bytes pc 4)) inst q).0
 
 -- touches by other places than 0
 abbrev pub AreAway : List Touch → Type 0
@@ -37,7 +39,8 @@ not-zero r s e = absurd (let z : false ≡ true = sym (ap (λ (n : ℕ). not (n 
 -- what doesn't access touches nothing more
 taken-away : (b : Bool) (regs : List ℕ) (target pc : ℕ) → AreAway (touches_of (cond b (taken regs target) (Goes regs pc)))
 unfolding touches_of
-taken-away true regs target pc = elim (target % 4 == 0) as (λ b. AreAway (touches_of (cond b (Goes regs target) (Faults 0 target)))) [ true ↦ tt | false ↦ tt ]
+taken-away true regs target pc = elim (target % 4 == 0) as (λ b. AreAway (touches_of (cond b (Goes regs target) (Faults 0 target))))
+    [ true ↦ tt | false ↦ tt ]
 taken-away false regs target pc = tt
 
 effect-away : (inst : Inst) (regs : List ℕ) (pc : ℕ) → stays inst ≡ true → AreAway (touches_of (effect inst regs pc))
@@ -49,10 +52,15 @@ effect-away (Jalr rd rs1 imm) regs pc s = tt
 effect-away (Branch c rs1 rs2 imm) regs pc s = taken-away (holds c (reg regs rs1) (reg regs rs2)) regs (plus pc imm) (next pc)
 effect-away (Load width rd rs1 imm) regs pc s =
     let a = plus (reg regs rs1) imm in
-    elim (a % load_size width == 0) as (λ b. AreAway (touches_of (cond b (Loads rs1 a width rd) (Faults 4 a)))) [ true ↦ (not-zero rs1 s, tt) | false ↦ tt ]
+    elim (a % load_size width == 0) as (λ b. AreAway (touches_of (cond b (Loads rs1 a width rd) (Faults 4 a)))) [
+      | true ↦
+          (not-zero rs1 s, tt)
+      | false ↦ tt
+    ]
 effect-away (Store width rs1 rs2 imm) regs pc s =
     let a = plus (reg regs rs1) imm in
-    elim (a % store_size width == 0) as (λ b. AreAway (touches_of (cond b (Stores rs1 a (store_size width) (reg regs rs2)) (Faults 6 a)))) [ true ↦ (not-zero rs1 s, tt) | false ↦ tt ]
+    elim (a % store_size width == 0) as (λ b. AreAway (touches_of (cond b (Stores rs1 a (store_size width) (reg regs rs2)) (Faults 6 a))))
+    [ true ↦ (not-zero rs1 s, tt) | false ↦ tt ]
 effect-away (OpImm op rd rs1 imm) regs pc s = tt
 effect-away (Op op rd rs1 rs2) regs pc s = tt
 effect-away (Fence fields) regs pc s = tt

@@ -95,7 +95,8 @@ HasCause (Trap fault) = fault.cause < 8
 HasCause Call = Unit {0}
 HasCause (Back rd target) = rd < 32
 
--- an instruction of a hart in a state of the machine, by what the state answers of rights: its effect, whether a JAL or JALR is to return, its
+-- an instruction of a hart in a state of the machine, by what the state answers of rights: its effect, whether a JAL or JALR is to return,
+-- its
 -- answer, and the registers and bytes that it leaves
 abbrev pub effect_in : Reads → Core → Hart → Effect
 effect_in r c hart = fetched (perm_of r c hart.domain) c.ram hart.regs hart.pc

@@ -19,8 +19,10 @@ pub struct Entry {
     pub inst: Inst,
 }
 
-/// Words that were fetched, each with its instruction, by the low bits of its address. RAM is read at each fetch and the word
-/// compared, so that nothing has to be forgotten where code is written. A word that a row leaves is never kept, so that one that is found
+/// Words that were fetched, each with its instruction, by the low bits of its address. RAM is read at each fetch and
+/// the word
+/// compared, so that nothing has to be forgotten where code is written. A word that a row leaves is never kept, so that
+/// one that is found
 /// needn't be asked whether it stays.
 #[derive(Drop)]
 pub struct Memo {
@@ -56,7 +58,8 @@ impl Memo {
         }
     }
 
-    /// The instruction of a word that was fetched at an address. `None` exactly where no row of the instruction table matches the
+    /// The instruction of a word that was fetched at an address. `None` exactly where no row of the instruction table
+    /// matches the
     /// word, and where a row of turns doesn't carry the instruction out: an ECALL, an EBREAK, or an access by x0.
     #[inline(always)]
     pub fn inst(&mut self, addr: u32, word: u32) -> Option<Inst>

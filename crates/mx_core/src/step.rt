@@ -3,7 +3,8 @@ ghost use Rattle.std.specs.Prelude.{◌≡◌, ◌%◌, ◌<◌, ◌==◌, ◌�
 ghost use Rattle.mx_isa.specs.Ranges.{IsValid};
 ghost use Rattle.mx_model.specs.Effect.{effect, loads_at, stores_at, store_size, reg, written, next, plus};
 ghost use Rattle.mx_core.specs.Bus.{IsTouched};
-ghost use Rattle.mx_core.specs.Exec.{fetched, outcome_of, regs_after, bytes_after, touches_of, fetch_touch, trap, IsAligned, HasCause};
+ghost use Rattle.mx_core.specs.Exec.{fetched, outcome_of, regs_after, bytes_after, touches_of, fetch_touch, trap};
+ghost use Rattle.mx_core.specs.Exec.{IsAligned, HasCause};
 
 use crate::bus::{Bus, Denied};
 use crate::outcome::Outcome;
@@ -132,7 +133,8 @@ fn act<B: Bus>(bus: &mut B, regs: &mut Regs, pc: u32, returns: bool, inst: Inst)
     }
 }
 
-/// As `act`, where no JAL or JALR is to return. For rows of turns: a store is laid out for each width, which the few turns outside a row
+/// As `act`, where no JAL or JALR is to return. For rows of turns: a store is laid out for each width, which the few
+/// turns outside a row
 /// would not pay back.
 #[tactic(auto, unfolding(mx_model::specs::Effect::effect, mx_isa::specs::Ranges::IsValid, crate::specs::Exec::outcome_of, crate::specs::Exec::regs_after, crate::specs::Exec::bytes_after, crate::specs::Exec::touches_of))]
 #[inline(always)]

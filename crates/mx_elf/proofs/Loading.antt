@@ -18,7 +18,8 @@ pub record IsSoFar (bytes : List ℕ) (first count k : ℕ) (items : List Seg) :
 pub passes : (bytes : List ℕ) (first count k : ℕ) (items : List Seg) → k < count → is_loaded bytes (first + 32 * k) ≡ false
     → IsSoFar bytes first count k items → IsSoFar bytes first count (k + 1) items
 passes bytes first count k items lt fails h =
-    let e : segments_at bytes (places (first + 32 * k) 32 (count - k)) ≡ segments_at bytes (places (first + 32 * (k + 1)) 32 (count - (k + 1))) = rw (places-next first 32 count k lt, fails) refl in
+    let e : segments_at bytes (places (first + 32 * k) 32 (count - k))
+    ≡ segments_at bytes (places (first + 32 * (k + 1)) 32 (count - (k + 1))) = rw (places-next first 32 count k lt, fails) refl in
     record { segments = rw (← e) h.segments; faults = rw (← e) h.faults }
 
 -- at a loaded header what is left is its segment and the rest
@@ -29,7 +30,8 @@ here bytes first count k lt holds = rw (places-next first 32 count k lt, holds) 
 
 -- and its faults come first
 pub faults-here : (size n : ℕ) (s : Seg) (rest : List Seg)
-    → first_fault (rows_from size n (s ∷ rest)) ≡ option_or (first_fault (segment_rows size (n, s))) (first_fault (rows_from size (n + 1) rest))
+    → first_fault (rows_from size n (s ∷ rest)) ≡ option_or (first_fault (segment_rows size (n, s)))
+    (first_fault (rows_from size (n + 1) rest))
 faults-here size n s rest = first_row-append (segment_rows size (n, s)) (rows_from size (n + 1) rest)
 
 pub adds : (bytes : List ℕ) (first count k : ℕ) (items : List Seg) → k < count → is_loaded bytes (first + 32 * k) ≡ true
@@ -39,12 +41,15 @@ adds bytes first count k items lt holds none h =
     let s = segment_at bytes (first + 32 * k) in
     let rest = segments_at bytes (places (first + 32 * (k + 1)) 32 (count - (k + 1))) in
     let e = here bytes first count k lt holds in
-    let one : first_fault (rows_from (length bytes) (length items) (s ∷ rest)) ≡ first_fault (rows_from (length bytes) (length items + 1) rest) =
-    faults-here (length bytes) (length items) s rest ∙ ap (λ o. option_or o (first_fault (rows_from (length bytes) (length items + 1) rest))) none in
+    let one : first_fault (rows_from (length bytes) (length items) (s ∷ rest))
+    ≡ first_fault (rows_from (length bytes) (length items + 1) rest) =
+    faults-here (length bytes) (length items) s rest ∙ ap (λ o.
+    option_or o (first_fault (rows_from (length bytes) (length items + 1) rest))) none in
     let len : length (items ++ s ∷ []) ≡ length items + 1 = length-append items (s ∷ []) in
     record {
       segments = append_assoc items (s ∷ []) rest ∙ ap (λ xs. items ++ xs) (sym e) ∙ h.segments;
-      faults = ap (λ n. first_fault (rows_from (length bytes) n rest)) len ∙ sym one ∙ ap (λ xs. first_fault (rows_from (length bytes) (length items) xs)) (sym e) ∙ h.faults;
+      faults = ap (λ n. first_fault (rows_from (length bytes) n rest)) len ∙ sym one
+          ∙ ap (λ xs. first_fault (rows_from (length bytes) (length items) xs)) (sym e) ∙ h.faults;
     }
 
 pub stops : (bytes : List ℕ) (first count k : ℕ) (items : List Seg) (number : ℕ) → k < count → is_loaded bytes (first + 32 * k) ≡ true
@@ -54,4 +59,5 @@ stops bytes first count k items number lt holds some h =
     let s = segment_at bytes (first + 32 * k) in
     let rest = segments_at bytes (places (first + 32 * (k + 1)) 32 (count - (k + 1))) in
     sym h.faults ∙ ap (λ xs. first_fault (rows_from (length bytes) (length items) xs)) (here bytes first count k lt holds)
-    ∙ faults-here (length bytes) (length items) s rest ∙ ap (λ o. option_or o (first_fault (rows_from (length bytes) (length items + 1) rest))) some
+    ∙ faults-here (length bytes) (length items) s rest ∙ ap (λ o.
+    option_or o (first_fault (rows_from (length bytes) (length items + 1) rest))) some

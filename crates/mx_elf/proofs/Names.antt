@@ -1,5 +1,6 @@
 -- Names that end at a zero byte.
-use Rattle.std.proofs.Common.{◌≡◌, ℕ, suc, ◌<◌, ◌≤◌, Bool, true, false, ◌&&◌, ◌||◌, ◌==◌, List, [], ◌∷◌, length, get_or, take, Option, Some, None, refl, sym, ap, ◌∙◌, arith, ⊎_elim, nat_lt, cond}
+use Rattle.std.proofs.Common.{◌≡◌, ℕ, suc, ◌<◌, ◌≤◌, Bool, true, false, ◌&&◌, ◌||◌, ◌==◌, List, [], ◌∷◌, length, get_or, take, Option, Some}
+use Rattle.std.proofs.Common.{None, refl, sym, ap, ◌∙◌, arith, ⊎_elim, nat_lt, cond}
 use Rattle.std.specs.Prelude.{find, option_map, if◌then◌else◌}
 use Rattle.std.specs.Option.{option_map_or}
 use Rattle.std.specs.Str.{bytes_eq}
@@ -20,7 +21,8 @@ longer b (Some n) = refl
 
 -- its first byte tells
 pub further : (b c : ℕ) (name : List ℕ) (o : Option (List ℕ)) →
-    option_map_or (λ found. bytes_eq found (c ∷ name)) (option_map (λ n. b ∷ n) o) false ≡ ((b == c) && option_map_or (λ found. bytes_eq found name) o false)
+    option_map_or (λ found. bytes_eq found (c ∷ name)) (option_map (λ n. b ∷ n) o) false
+    ≡ ((b == c) && option_map_or (λ found. bytes_eq found name) o false)
 further b c name None = by (b == c)
   where
     by : (t : Bool) → false ≡ (t && false)
@@ -41,13 +43,16 @@ never false z e = refl
 
 -- strings begin with a name exactly where its bytes stand there with a zero byte after them
 pub begins_told : (strings name : List ℕ) → HasNoZero name →
-    begins_with_name strings name ≡ (nat_lt (length name) (length strings) && ((get_or strings (length name) 0 == 0) && bytes_eq (take (length name) strings) name))
+    begins_with_name strings name ≡ (nat_lt (length name) (length strings)
+    && ((get_or strings (length name) 0 == 0) && bytes_eq (take (length name) strings) name))
 begins_told [] [] h = refl
-begins_told [] (c ∷ name) h = sym (ap (λ t. t && ((get_or [] (length (c ∷ name)) 0 == 0) && bytes_eq (take (length (c ∷ name)) []) (c ∷ name))) (le-ltb (length (c ∷ name)) 0 (omega arith)))
+begins_told [] (c ∷ name) h = sym (ap (λ t. t && ((get_or [] (length (c ∷ name)) 0 == 0)
+    && bytes_eq (take (length (c ∷ name)) []) (c ∷ name))) (le-ltb (length (c ∷ name)) 0 (omega arith)))
 begins_told (b ∷ strings) [] h =
     by (b == 0) ∙ sym (ap (λ t. t && ((b == 0) && true)) (lt-ltb 0 (length (b ∷ strings)) (omega arith)))
   where
-    by : (t : Bool) → option_map_or (λ found. bytes_eq found []) (if t then Some [] else option_map (λ name. b ∷ name) (name_of strings)) false ≡ (t && true)
+    by : (t : Bool) → option_map_or (λ found. bytes_eq found []) (if t then Some [] else option_map (λ name. b ∷ name) (name_of strings))
+        false ≡ (t && true)
     by true = refl
     by false = longer b (name_of strings)
 begins_told (b ∷ strings) (c ∷ name) h =
@@ -60,7 +65,8 @@ begins_told (b ∷ strings) (c ∷ name) h =
     let zero_is : b ≡ 0 = eqb-true b 0 t in
     let other : (b == c) ≡ false = ne_eqb b c (λ same. absurd (eqb-false c 0 parts.0 (sym same ∙ zero_is))) in
     ap (λ t. option_map_or (λ found. bytes_eq found (c ∷ name)) (if t then Some [] else option_map (λ n. b ∷ n) (name_of strings)) false) t
-    ∙ sym (ap (λ u. nat_lt (length (c ∷ name)) (length (b ∷ strings)) && (z && (u && e))) other ∙ never (nat_lt (length (c ∷ name)) (length (b ∷ strings))) z e))
+    ∙ sym (ap (λ u. nat_lt (length (c ∷ name)) (length (b ∷ strings)) && (z && (u && e))) other
+    ∙ never (nat_lt (length (c ∷ name)) (length (b ∷ strings))) z e))
     (λ (f : (b == 0) ≡ false).
     ap (λ t. option_map_or (λ found. bytes_eq found (c ∷ name)) (if t then Some [] else option_map (λ n. b ∷ n) (name_of strings)) false) f
     ∙ further b c name (name_of strings)

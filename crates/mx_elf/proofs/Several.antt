@@ -1,5 +1,6 @@
 -- Symbols that are looked up together.
-use Rattle.std.proofs.Common.{◌≡◌, ℕ, zero, suc, ◌+◌, ◌-◌, ◌*◌, ◌<◌, ◌≤◌, ◌⊎◌, ⊎_elim, ◌||◌, Bool, true, false, cond, List, [], ◌∷◌, length, get_or, take, map, Option, Some, None, is_some, option_map, refl, sym, ap, ◌∙◌, arith, bytes_eq}
+use Rattle.std.proofs.Common.{◌≡◌, ℕ, zero, suc, ◌+◌, ◌-◌, ◌*◌, ◌<◌, ◌≤◌, ◌⊎◌, ⊎_elim, ◌||◌, Bool, true, false, cond, List, [], ◌∷◌, length}
+use Rattle.std.proofs.Common.{get_or, take, map, Option, Some, None, is_some, option_map, refl, sym, ap, ◌∙◌, arith, bytes_eq}
 use Rattle.std.specs.Prelude.{find, ◌==◌, ◌&&◌}
 use Rattle.std.specs.Borrow.{Bor}
 use Rattle.std.specs.Map.{lookup}
@@ -24,12 +25,14 @@ rest_of symbols strings count k name =
     option_map (st_value symbols) (find (is_defined symbols strings name) (places (0 + 16 * k) 16 (count - k)))
 
 -- what a map tells of a name is what it finds
-pub told-known : (name : List ℕ) (entries : List (Bor (List ℕ) × Option ℕ)) → lookup (bytes_eq name) (map (λ e. (e.0.now, e.1)) entries) ≡ lookup (λ key. bytes_eq name key.now) entries
+pub told-known : (name : List ℕ) (entries : List (Bor (List ℕ) × Option ℕ))
+    → lookup (bytes_eq name) (map (λ e. (e.0.now, e.1)) entries) ≡ lookup (λ key. bytes_eq name key.now) entries
 told-known name [] = refl
 told-known name (e ∷ entries) = ap (cond (bytes_eq name e.0.now) (Some e.1)) (told-known name entries)
 
 -- the name that ends at the first zero byte
-pub name-ends : (strings : List ℕ) (k : ℕ) → k < length strings → get_or strings k 0 ≡ 0 → ((j : ℕ) → j < k → get_or strings j 0 ≡ 0 → ⊥) → name_of strings ≡ Some (take k strings)
+pub name-ends : (strings : List ℕ) (k : ℕ) → k < length strings → get_or strings k 0 ≡ 0 → ((j : ℕ) → j < k → get_or strings j 0 ≡ 0 → ⊥)
+    → name_of strings ≡ Some (take k strings)
 name-ends [] k lt at none = absurd (let r : ⊥ = omega arith in r)
 name-ends (b ∷ strings) zero lt at none = ap (λ t. cond t (Some []) (option_map (λ name. b ∷ name) (name_of strings))) (eq-eqb b 0 at)
 name-ends (b ∷ strings) (suc k) lt at none =
@@ -37,13 +40,16 @@ name-ends (b ∷ strings) (suc k) lt at none =
     ∙ ap (option_map (λ name. b ∷ name)) (name-ends strings k (omega arith) at (λ j below. none (suc j) (omega arith)))
 
 -- where the first bytes have no zero, no name is so short
-pub name-later : (strings name : List ℕ) → ((j : ℕ) → j ≤ length name → j < length strings → get_or strings j 0 ≡ 0 → ⊥) → begins_with_name strings name ≡ false
+pub name-later : (strings name : List ℕ) → ((j : ℕ) → j ≤ length name → j < length strings → get_or strings j 0 ≡ 0 → ⊥)
+    → begins_with_name strings name ≡ false
 name-later [] name none = refl
 name-later (b ∷ strings) [] none =
-    ap (λ t. option_map_or (λ found. bytes_eq found []) (cond t (Some []) (option_map (λ name. b ∷ name) (name_of strings))) false) (ne_eqb b 0 (none 0 (omega arith) (omega arith)))
+    ap (λ t. option_map_or (λ found. bytes_eq found []) (cond t (Some []) (option_map (λ name. b ∷ name) (name_of strings))) false)
+    (ne_eqb b 0 (none 0 (omega arith) (omega arith)))
     ∙ longer b (name_of strings)
 name-later (b ∷ strings) (c ∷ name) none =
-    ap (λ t. option_map_or (λ found. bytes_eq found (c ∷ name)) (cond t (Some []) (option_map (λ name. b ∷ name) (name_of strings))) false) (ne_eqb b 0 (none 0 (omega arith) (omega arith)))
+    ap (λ t. option_map_or (λ found. bytes_eq found (c ∷ name)) (cond t (Some []) (option_map (λ name. b ∷ name) (name_of strings))) false)
+    (ne_eqb b 0 (none 0 (omega arith) (omega arith)))
     ∙ further b c name (name_of strings)
     ∙ ap (λ t. (b == c) && t) (name-later strings name (λ j le lt. none (suc j) (omega arith) (omega arith)))
     ∙ and-false (b == c)
@@ -53,7 +59,8 @@ name-later (b ∷ strings) (c ∷ name) none =
     and-false false = refl
 
 -- after a value is written at one name: it has the new value, and each other name what it had
-pub given : (name q : List ℕ) (value : ℕ) (old w : Option ℕ) (f : List ℕ → Option (Option ℕ)) (y : Option (Option ℕ)) → f name ≡ Some old → w ≡ option_or old (Some value)
+pub given : (name q : List ℕ) (value : ℕ) (old w : Option ℕ) (f : List ℕ → Option (Option ℕ)) (y : Option (Option ℕ)) → f name ≡ Some old
+    → w ≡ option_or old (Some value)
     → y ≡ cond (bytes_eq name q) (Some w) (f q) → y ≡ option_map (λ v. option_or v (cond (bytes_eq name q) (Some value) None)) (f q)
 given name q value old w f y has is told = told ∙ by (bytes_eq name q) refl
   where
@@ -76,7 +83,8 @@ rest-next symbols strings name count k at lt is =
     ∙ by (is_defined symbols strings name (0 + 16 * k))
     ∙ ap (λ at. option_or (value_here symbols strings name at) (rest_of symbols strings count (k + 1) name)) is
   where
-    by : (t : Bool) → option_map (st_value symbols) (cond t (Some (0 + 16 * k)) (find (is_defined symbols strings name) (places (0 + 16 * (k + 1)) 16 (count - (k + 1)))))
+    by : (t : Bool) → option_map (st_value symbols) (cond t (Some (0 + 16 * k))
+        (find (is_defined symbols strings name) (places (0 + 16 * (k + 1)) 16 (count - (k + 1)))))
         ≡ option_or (cond t (Some (st_value symbols (0 + 16 * k))) None) (rest_of symbols strings count (k + 1) name)
     by true = refl
     by false = refl
@@ -84,9 +92,11 @@ rest-next symbols strings name count k at lt is =
 -- one more symbol was looked at
 pub walked : (here later all : Option ℕ) (x y : Option (Option ℕ)) → all ≡ option_or here later → y ≡ option_map (λ v. option_or v here) x
     → option_map (λ v. option_or v later) y ≡ option_map (λ v. option_or v all) x
-walked here later all x y is told = ap (option_map (λ v. option_or v later)) told ∙ by x ∙ ap (λ a. option_map (λ v. option_or v a) x) (sym is)
+walked here later all x y is told = ap (option_map (λ v. option_or v later)) told ∙ by x
+    ∙ ap (λ a. option_map (λ v. option_or v a) x) (sym is)
   where
-    by : (x : Option (Option ℕ)) → option_map (λ v. option_or v later) (option_map (λ v. option_or v here) x) ≡ option_map (λ v. option_or v (option_or here later)) x
+    by : (x : Option (Option ℕ)) → option_map (λ v. option_or v later) (option_map (λ v. option_or v here) x)
+        ≡ option_map (λ v. option_or v (option_or here later)) x
     by None = refl
     by (Some None) = refl
     by (Some (Some v)) = refl
@@ -107,8 +117,10 @@ some-or None value some = absurd (let r : ⊥ = cc in r)
 some-or (Some w) value some = refl
 
 -- the name at the first zero byte among so many bytes, after which no name that is short enough begins
-pub found-name : (strings name : List ℕ) (most longest : ℕ) → most ≤ length strings → length name ≤ longest → (most ≡ longest + 1) ⊎ (most ≡ length strings)
-    → (r : Option ℕ) → IsFirstByte (is_byte 0) (take most strings) r → begins_with_name strings name ≡ option_map_or (λ end. bytes_eq (take end strings) name) r false
+pub found-name : (strings name : List ℕ) (most longest : ℕ) → most ≤ length strings → length name ≤ longest
+    → (most ≡ longest + 1) ⊎ (most ≡ length strings)
+    → (r : Option ℕ) → IsFirstByte (is_byte 0) (take most strings) r
+    → begins_with_name strings name ≡ option_map_or (λ end. bytes_eq (take end strings) name) r false
 found-name strings name most longest inside short ends (Some end) h =
     let below : end < most = omega (arith, h.0.high, length-take-le most strings inside) in
     ap (λ found. option_map_or (λ n. bytes_eq n name) found false)
@@ -122,17 +134,21 @@ found-name strings name most longest inside short ends None h =
 -- equality of bytes goes both ways
 bytes_eq-sym : (xs ys : List ℕ) → bytes_eq xs ys ≡ bytes_eq ys xs
 bytes_eq-sym xs ys =
-    same_from_decides (bytes_eq xs ys) (bytes_eq ys xs) (bytes_eq-Decides xs ys) (Decides-like (bytes_eq ys xs) sym sym (bytes_eq-Decides ys xs))
+    same_from_decides (bytes_eq xs ys) (bytes_eq ys xs) (bytes_eq-Decides xs ys)
+    (Decides-like (bytes_eq ys xs) sym sym (bytes_eq-Decides ys xs))
 
 -- one more name is asked for
 pub asked-more : (names : List (Bor (List ℕ))) (i : ℕ) (d : Bor (List ℕ)) (q : List ℕ) (x y : Option (Option ℕ)) → i < length names
-    → x ≡ cond (list_any (λ n. bytes_eq q n.now) (take i names)) (Some None) None → y ≡ cond (bytes_eq (get_or names i d).now q) (Some None) x
+    → x ≡ cond (list_any (λ n. bytes_eq q n.now) (take i names)) (Some None) None
+    → y ≡ cond (bytes_eq (get_or names i d).now q) (Some None) x
     → y ≡ cond (list_any (λ n. bytes_eq q n.now) (take (i + 1) names)) (Some None) None
 asked-more names i d q x y lt before told =
     told ∙ ap (λ x. cond (bytes_eq (get_or names i d).now q) (Some None) x) before
     ∙ by (list_any (λ n. bytes_eq q n.now) (take i names)) (bytes_eq (get_or names i d).now q) (Some None) None
-    ∙ ap (λ t. cond (list_any (λ n. bytes_eq q n.now) (take i names) || (t || false)) (Some None) None) (bytes_eq-sym (get_or names i d).now q)
-    ∙ sym (ap (λ t. cond t (Some None) None) (ap (list_any (λ n. bytes_eq q n.now)) (take_more names i d lt) ∙ list_any-append (λ n. bytes_eq q n.now) (take i names) (get_or names i d ∷ [])))
+    ∙ ap (λ t. cond (list_any (λ n. bytes_eq q n.now) (take i names) || (t || false)) (Some None) None)
+    (bytes_eq-sym (get_or names i d).now q)
+    ∙ sym (ap (λ t. cond t (Some None) None) (ap (list_any (λ n. bytes_eq q n.now)) (take_more names i d lt)
+    ∙ list_any-append (λ n. bytes_eq q n.now) (take i names) (get_or names i d ∷ [])))
   where
     by : (a b : Bool) (x y : Option (Option ℕ)) → cond b x (cond a x y) ≡ cond (a || (b || false)) x y
     by true true x y = refl
@@ -141,7 +157,8 @@ asked-more names i d q x y lt before told =
     by false false x y = refl
 
 -- which names are told, and that their values hold
-pub found-names : (asked : Bool) (value : Option ℕ) (x y : Option (Option ℕ)) → x ≡ cond asked (Some None) None → y ≡ option_map (λ _. value) x → is_some y ≡ asked
+pub found-names : (asked : Bool) (value : Option ℕ) (x y : Option (Option ℕ)) → x ≡ cond asked (Some None) None
+    → y ≡ option_map (λ _. value) x → is_some y ≡ asked
 found-names asked value x y before told = ap is_some (told ∙ ap (option_map (λ _. value)) before) ∙ by asked
   where
     by : (t : Bool) → is_some (option_map (λ (_ : Option ℕ). value) (cond t (Some None) None)) ≡ t

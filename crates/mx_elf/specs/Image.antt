@@ -1,13 +1,16 @@
 -- What a file is read as: an image, or its first fault.
 -- The rules: docs/COMMANDS.md, "The manifest".
-use Rattle.std.specs.Prelude.{◌≡◌, ◌<◌, ◌≤◌, ℕ, ◌+◌, ◌*◌, ◌%◌, ◌==◌, nat_eq, nat_lt, Bool, not, ◌&&◌, ◌||◌, List, [], ◌∷◌, ◌++◌, length, map, filter, Option, Some, None, Result, Ok, Err}
+use Rattle.std.specs.Prelude.{◌≡◌, ◌<◌, ◌≤◌, ℕ, ◌+◌, ◌*◌, ◌%◌, ◌==◌, nat_eq, nat_lt, Bool, not, ◌&&◌, ◌||◌, List, [], ◌∷◌, ◌++◌, length}
+use Rattle.std.specs.Prelude.{map, filter, Option, Some, None, Result, Ok, Err}
 use Rattle.std.specs.List.{starts_with, flat_map, enumerate_from}
 use Rattle.mx_words.specs.FirstRow.{Row, first_row}
+use Rattle.mx_words.specs.Limits.{most_segments}
 use Rattle.mx_elf.specs.declared.image.Image.{Image}
 use Rattle.mx_elf.specs.declared.image.ImageFault.{ImageFault}
 use Rattle.mx_elf.specs.declared.segment.Seg.{Seg}
 use Rattle.mx_elf.specs.Field.{places}
-use Rattle.mx_elf.specs.Header.{ei_class, ei_data, e_type, e_machine, e_entry, e_phoff, e_phentsize, e_phnum, p_type, p_offset, p_vaddr, p_filesz, p_memsz, p_flags}
+use Rattle.mx_elf.specs.Header.{ei_class, ei_data, e_type, e_machine, e_entry, e_phoff, e_phentsize, e_phnum, p_type, p_offset, p_vaddr}
+use Rattle.mx_elf.specs.Header.{p_filesz, p_memsz, p_flags}
 
 -- a row of the table of faults: whether it applies, and its number
 abbrev pub Fault : Type 0
@@ -41,7 +44,7 @@ header_rows bytes =
 abbrev pub segment_rows : ℕ → ℕ × Seg → List Fault
 segment_rows size placed =
     let s = placed.1 in
-    (placed.0 == 16, 7)
+    (placed.0 == most_segments, 7)
     ∷ (not (s.file == 0) && nat_lt size (s.offset + s.file), 8)
     ∷ (nat_lt s.memory s.file, 9)
     ∷ (not (s.address % 4 == 0), 10)

@@ -4,16 +4,16 @@ ghost use Rattle.std.specs.Prelude.{◌≡◌, ◌<◌, ◌≤◌, length, slice
 
 use crate::segment::Seg;
 use arrayvec::ArrayVec;
+use mx_words::MOST_SEGMENTS;
 use std::marker::Model;
-
-/// How many loaded segments an image may have.
-pub(crate) const MOST_SEGMENTS: usize = 16;
 
 /// Why a file is no image: the number of the first fault that applies.
 ///
 /// 1: fewer than 52 bytes. 2: it doesn't begin with 7F 45 4C 46. 3: the class isn't 32 bits, or the data isn't
-/// little-endian. 4: it is no executable file. 5: the machine isn't RISC-V. 6: there are program headers, and their size
-/// isn't 32 or they pass the file's end. Then for each loaded segment in turn, 7: it is the seventeenth. 8: it has bytes
+/// little-endian. 4: it is no executable file. 5: the machine isn't RISC-V. 6: there are program headers, and their
+/// size
+/// isn't 32 or they pass the file's end. Then for each loaded segment in turn, 7: it is the seventeenth. 8: it has
+/// bytes
 /// in the file, and these pass the file's end. 9: the file has more bytes of it than memory. 10: its address is no
 /// multiple of 4.
 #[derive(Clone, Copy, PartialEq, Eq)]

@@ -3,10 +3,11 @@
 ghost use Rattle.std.specs.Prelude.{◌≡◌, ◌≢◌, ◌+◌, ◌*◌, ◌<◌, ◌≤◌, length, ℕ, All, IfOk, IfNone};
 ghost use Rattle.mx_elf.specs.Field.{places};
 ghost use Rattle.mx_elf.specs.Header.{e_phoff, e_phnum};
-ghost use Rattle.mx_elf.specs.Image.{first_fault, header_rows, segment_rows, is_loaded, segment_at, segments_at, rows_from, unless, image_of, IsSound};
+ghost use Rattle.mx_elf.specs.Image.{first_fault, header_rows, segment_rows, is_loaded, segment_at, segments_at};
+ghost use Rattle.mx_elf.specs.Image.{rows_from, unless, image_of, IsSound};
 
 use crate::field::{half_at, word_at};
-use crate::image::{Image, ImageFault, MOST_SEGMENTS, Segs};
+use crate::image::{Image, ImageFault, Segs};
 use crate::layout::{
     CLASS_32, E_ENTRY, E_MACHINE, E_PHENTSIZE, E_PHNUM, E_PHOFF, E_TYPE, EI_CLASS, EI_DATA,
     EM_RISCV, ET_EXEC, HEADER_SIZE, LOWEST_FIRST, MAGIC, P_FILESZ, P_FLAGS, P_MEMSZ, P_OFFSET,
@@ -14,6 +15,7 @@ use crate::layout::{
 };
 use crate::segment::Seg;
 use arrayvec::ArrayVec;
+use mx_words::MOST_SEGMENTS;
 
 /// The image that a file is, or the first of its faults (`ImageFault` says which there are). Sums of offsets and sizes
 /// don't wrap at 2^32. Program headers of other types, and those of no bytes in memory, are passed over (System V gABI,

@@ -1,9 +1,11 @@
 //! The values of symbols.
 
-ghost use Rattle.std.specs.Prelude.{◌≡◌, ◌+◌, ◌*◌, ◌/◌, ◌<◌, ◌≤◌, ℕ, List, length, drop, find, ◌==◌, IfSome, option_map, option_and_then};
+ghost use Rattle.std.specs.Prelude.{◌≡◌, ◌+◌, ◌*◌, ◌/◌, ◌<◌, ◌≤◌, ℕ, List, length, drop, find, ◌==◌, IfSome};
+ghost use Rattle.std.specs.Prelude.{option_map, option_and_then};
 ghost use Rattle.mx_elf.specs.Field.{places};
 ghost use Rattle.mx_elf.specs.Header.{e_shoff, e_shnum, sh_type};
-ghost use Rattle.mx_elf.specs.Symbol.{has_sections, symbol_table_of, section_place, section_bytes, HasNoZero, begins_with_name, is_defined, value_of, symbol_of};
+ghost use Rattle.mx_elf.specs.Symbol.{has_sections, symbol_table_of, section_place, section_bytes, HasNoZero};
+ghost use Rattle.mx_elf.specs.Symbol.{begins_with_name, is_defined, value_of, symbol_of};
 
 use crate::field::{half_at, word_at};
 use crate::layout::{
@@ -154,7 +156,8 @@ fn has_name(strings: &[u8], at: u32, name: &[u8]) -> bool
     at <= strings.len() && begins_with_name(&strings[at..], name)
 }
 
-/// Whether these strings begin with this name, in which no byte is zero, and a zero byte. That byte is looked at first: few
+/// Whether these strings begin with this name, in which no byte is zero, and a zero byte. That byte is looked at first:
+/// few
 /// strings of a file end just there.
 fn begins_with_name(strings: &[u8], name: &[u8]) -> bool
     requires { HasNoZero name.now }

@@ -1,6 +1,7 @@
 //! The values of several symbols, found in one walk over a file's symbols.
 
-ghost use Rattle.std.specs.Prelude.{◌≡◌, ◌≢◌, ◌+◌, ◌≤◌, ℕ, Bool, true, false, Option, None, Some, List, [], length, drop, is_some, not, if◌then◌else◌, IfOk, option_map};
+ghost use Rattle.std.specs.Prelude.{◌≡◌, ◌≢◌, ◌+◌, ◌≤◌, ℕ, Bool, true, false, Option, None, Some, List, [], length};
+ghost use Rattle.std.specs.Prelude.{drop, is_some, not, if◌then◌else◌, IfOk, option_map};
 ghost use Rattle.std.specs.List.{list_any};
 ghost use Rattle.std.specs.Option.{option_map_or, option_or};
 ghost use Rattle.std.specs.Str.{bytes_eq};
@@ -44,8 +45,10 @@ impl<'a> Symbols<'a> {
         }
     }
 
-    /// Those of these names, found in one walk over the symbols of the file. Usually a name costs what its hash does, however many
-    /// names are asked for. The hash has a fixed key: names chosen so that their hashes collide cost a comparison with each other name
+    /// Those of these names, found in one walk over the symbols of the file. Usually a name costs what its hash does,
+    /// however many
+    /// names are asked for. The hash has a fixed key: names chosen so that their hashes collide cost a comparison with
+    /// each other name
     /// that is asked for, and a module's gates and returns together can ask for at most 512 names.
     pub fn find(alloc: Global, bytes: &[u8], names: &[&'a str]) -> Result<Symbols<'a>, NoMemory>
         ensures names { IfOk result (λ symbols. (name : List ℕ) →
@@ -57,7 +60,8 @@ impl<'a> Symbols<'a> {
         Ok(Symbols { values })
     }
 
-    /// The value of the symbol of a name in that file, as `symbol` tells it. A name that wasn't asked for is searched for.
+    /// The value of the symbol of a name in that file, as `symbol` tells it. A name that wasn't asked for is searched
+    /// for.
     pub fn value(&self, bytes: &[u8], name: &str) -> Option<u32>
         requires { HoldsIn bytes.now self.now }
         ensures { result ≡ symbol_of bytes.now name.now }
@@ -106,7 +110,8 @@ fn look_up(values: &mut Values, bytes: &[u8], longest: usize)
     }
 }
 
-/// Gives each name, none of which has a value or is longer than `longest`, the value of the first symbol that is defined and has it.
+/// Gives each name, none of which has a value or is longer than `longest`, the value of the first symbol that is
+/// defined and has it.
 fn walk(values: &mut Values, symbols: &[u8], strings: &[u8], longest: usize)
     requires unknown { (name : List ℕ) (value : Option ℕ) → known_in values.old name ≡ Some value →
         value ≡ None }

@@ -40,7 +40,8 @@ three-sealed : audit three ≡ words_from 3 16381 ∷ []
 three-sealed = refl
 
 -- its report
-three-text : report (codes "m" ∷ []) (is_live three.core) (words_from 3 16381 ∷ []) ≡ codes "live 1 m\nsealed 0x8000000c 0x80010000\nsealed words=16381\n"
+three-text : report (codes "m" ∷ []) (is_live three.core) (words_from 3 16381 ∷ [])
+    ≡ codes "live 1 m\nsealed 0x8000000c 0x80010000\nsealed words=16381\n"
 unfolding report live_lines live_line sealed_line words_line digits
 three-text = refl
 
@@ -54,7 +55,8 @@ sealed-three = refl
 -- audit of gates in a circle: each domain has a gate into the other
 abbrev circle : State
 circle =
-    boot (inline 0 P.ExecuteRead (0x800012B7 ∷ 0x000280E7 ∷ 0x00100073 ∷ []) ∷ inline 1024 P.ExecuteRead (0x800002B7 ∷ 0x000280E7 ∷ 0x00100073 ∷ []) ∷ [])
+    boot (inline 0 P.ExecuteRead (0x800012B7 ∷ 0x000280E7 ∷ 0x00100073 ∷ [])
+    ∷ inline 1024 P.ExecuteRead (0x800002B7 ∷ 0x000280E7 ∷ 0x00100073 ∷ []) ∷ [])
     (gate 2 0 1 ∷ gate 1 1024 2 ∷ []) ((1, 0x80000000) ∷ [])
 
 circle-live : live_domains circle ≡ 1 ∷ 2 ∷ []
@@ -107,7 +109,8 @@ called-changes = refl
 
 -- the target of a gate: a hart in domain 2 jumps to a gate into domain 1, which stores x1 in its own word
 abbrev crossing : State
-crossing = boot (writer (0x800022B7 ∷ 0x0012A023 ∷ []) ∷ inline 1024 P.ExecuteRead (0x800002B7 ∷ 0x000280E7 ∷ []) ∷ []) (gate 2 0 1 ∷ []) ((2, 0x80001000) ∷ [])
+crossing = boot (writer (0x800022B7 ∷ 0x0012A023 ∷ []) ∷ inline 1024 P.ExecuteRead (0x800002B7 ∷ 0x000280E7 ∷ []) ∷ []) (gate 2 0 1 ∷ [])
+    ((2, 0x80001000) ∷ [])
 
 crossing-not-sealed : is_sealed (reads crossing) crossing.core 2048 ≡ false
 crossing-not-sealed = refl
@@ -119,7 +122,8 @@ crossing-changes = refl
 -- the owner: a module gives its own word 0, which it may not write, to domain 2
 abbrev giving : State
 giving =
-    boot (inline 0 P.ExecuteRead (0x00500893 ∷ 0x80000537 ∷ 0x00400593 ∷ 0x00200613 ∷ 0x00000073 ∷ []) ∷ inline 1024 P.ExecuteRead [] ∷ []) []
+    boot (inline 0 P.ExecuteRead (0x00500893 ∷ 0x80000537 ∷ 0x00400593 ∷ 0x00200613 ∷ 0x00000073 ∷ []) ∷ inline 1024 P.ExecuteRead [] ∷ [])
+    []
     ((1, 0x80000000) ∷ [])
 
 giving-not-sealed : is_sealed (reads giving) giving.core 0 ≡ false
@@ -143,7 +147,8 @@ storing-changes = refl
 -- and why each heap area is to belong to its module: alloc gives a module rights on a sealed word of its heap area that it doesn't own
 abbrev allocating : State
 allocating =
-    let s = boot (record (inline 0 P.ExecuteRead (0x00600893 ∷ 0x00100513 ∷ 0x00000073 ∷ [])) { heap = record { first = 2048; count = 1 } } ∷ []) [] ((1, 0x80000000) ∷ []) in
+    let s = boot (record (inline 0 P.ExecuteRead (0x00600893 ∷ 0x00100513 ∷ 0x00000073 ∷ [])) { heap = record { first = 2048; count = 1 } }
+    ∷ []) [] ((1, 0x80000000) ∷ []) in
     record s { gives = [] }
 
 allocating-sealed : is_sealed (reads allocating) allocating.core 2048 ≡ true

@@ -38,10 +38,15 @@ record Counts : Type 0 where
 abbrev counts : State → ℕ → Counts
 counts s h = record { sidecar = (cache_at s.core h).sidecar; lookaside = (cache_at s.core h).lookaside; walks = (cache_at s.core h).walks }
 
--- two harts, a transfer under a waiting grant: the grant is announced at step 11, the word is given away at step 12, and at step 13 the grant answers -2
+-- two harts, a transfer under a waiting grant: the grant is announced at step 11, the word is given away at step 12, and at step 13 the
+-- grant answers -2
 abbrev waiting : State
 waiting =
-    boot (record (inline 0 P.ExecuteRead (0x80001537 ∷ 0x00400593 ∷ 0x00200613 ∷ 0x00100693 ∷ 0x00300893 ∷ 0x00000073 ∷ 0x00100073 ∷ 0x80001537 ∷ 0x00400593 ∷ 0x00200613 ∷ 0x00500893 ∷ 0x00000013 ∷ 0x00000073 ∷ 0x00100073 ∷ [])) { stack = record { first = 1024; words = 4 } }
+    boot (record (inline 0 P.ExecuteRead (0x80001537 ∷ 0x00400593 ∷ 0x00200613 ∷ 0x00100693 ∷ 0x00300893 ∷ 0x00000073 ∷ 0x00100073
+    ∷ 0x80001537 ∷ 0x00400593 ∷ 0x00200613 ∷ 0x00500893 ∷ 0x00000013 ∷ 0x00000073 ∷ 0x00100073 ∷ [])) {
+      stack =
+          record { first = 1024; words = 4 };
+    }
     ∷ inline 2048 P.Read (0 ∷ []) ∷ []) [] ((1, 0x80000000) ∷ (1, 0x8000001C) ∷ [])
 
 -- how it ends, and the owners
@@ -53,7 +58,20 @@ abbrev transferred : State → Transferred
 transferred s = record { ending = end s; owners = owner_runs s }
 
 transfer-under-a-waiting-grant : transferred (run (ByQuantum 1) 20 waiting) ≡ record {
-  ending = record { notes = fault 14 1 1 0x80000034 3 0x80000034 ∷ fault 15 0 1 0x80000018 3 0x80000018 ∷ []; turns = 15; harts = record { pc = 0x80000018; domain = 1; frames = 0; regs = regs_with ((2, 0x80001010) ∷ (10, 0xfffffffe) ∷ (11, 0x4) ∷ (12, 0x2) ∷ (13, 0x1) ∷ (17, 0x3) ∷ []) } ∷ record { pc = 0x80000034; domain = 1; frames = 0; regs = regs_with ((2, 0x80001020) ∷ (11, 0x4) ∷ (12, 0x2) ∷ (17, 0x5) ∷ []) } ∷ [] };
+  ending = record {
+    notes = fault 14 1 1 0x80000034 3 0x80000034 ∷ fault 15 0 1 0x80000018 3 0x80000018 ∷ [];
+    turns = 15;
+    harts =
+        record {
+          pc = 0x80000018;
+          domain = 1;
+          frames = 0;
+          regs =
+              regs_with ((2, 0x80001010) ∷ (10, 0xfffffffe) ∷ (11, 0x4) ∷ (12, 0x2) ∷ (13, 0x1) ∷ (17, 0x3) ∷ []);
+        }
+        ∷ record { pc = 0x80000034; domain = 1; frames = 0; regs = regs_with ((2, 0x80001020) ∷ (11, 0x4) ∷ (12, 0x2) ∷ (17, 0x5) ∷ []) }
+        ∷ [];
+  };
   owners = run_of 14 1 ∷ run_of 1010 0 ∷ run_of 1 2 ∷ run_of 7 1 ∷ run_of 1016 0 ∷ run_of 1 2 ∷ run_of 14335 0 ∷ [];
 }
 unfolding decoded effect holds imm_result reg_result loaded number_at put_at cleared_at imm_i imm_s imm_b imm_u imm_j extended
@@ -61,7 +79,8 @@ transfer-under-a-waiting-grant = refl
 
 -- grant with one hart: it takes effect at its own turn
 abbrev granting : State
-granting = boot (inline 0 P.ExecuteRead (0x80000537 ∷ 0x00400593 ∷ 0x00200613 ∷ 0x00100693 ∷ 0x00300893 ∷ 0x00000073 ∷ 0x00100073 ∷ []) ∷ inline 2048 P.Read (0 ∷ []) ∷ []) [] ((1, 0x80000000) ∷ [])
+granting = boot (inline 0 P.ExecuteRead (0x80000537 ∷ 0x00400593 ∷ 0x00200613 ∷ 0x00100693 ∷ 0x00300893 ∷ 0x00000073 ∷ 0x00100073 ∷ [])
+    ∷ inline 2048 P.Read (0 ∷ []) ∷ []) [] ((1, 0x80000000) ∷ [])
 
 -- how it ends, and the maps of domains 1 and 2
 record Granted : Type 0 where
@@ -72,7 +91,12 @@ abbrev granted : State → Granted
 granted s = record { ending = end s; maps = list_map (map_runs s) (1 ∷ 2 ∷ []) }
 
 grant-with-one-hart : granted (run (ByQuantum 1) 10 granting) ≡ record {
-  ending = record { notes = fault 7 0 1 0x80000018 3 0x80000018 ∷ []; turns = 7; harts = record { pc = 0x80000018; domain = 1; frames = 0; regs = regs_with ((11, 0x4) ∷ (12, 0x2) ∷ (13, 0x1) ∷ (17, 0x3) ∷ []) } ∷ [] };
+  ending = record {
+    notes = fault 7 0 1 0x80000018 3 0x80000018 ∷ [];
+    turns = 7;
+    harts =
+        record { pc = 0x80000018; domain = 1; frames = 0; regs = regs_with ((11, 0x4) ∷ (12, 0x2) ∷ (13, 0x1) ∷ (17, 0x3) ∷ []) } ∷ [];
+  };
   maps = (run_of 7 P.ExecuteRead ∷ run_of 16377 P.None ∷ [])
       ∷ (run_of 1 P.Read ∷ run_of 2047 P.None ∷ run_of 1 P.Read ∷ run_of 14335 P.None ∷ [])
       ∷ [];
@@ -83,7 +107,8 @@ grant-with-one-hart = refl
 -- alloc, store, free, store: the freed block is denied
 abbrev allocating : State
 allocating =
-    boot (record (inline 0 P.ExecuteRead (0x00200513 ∷ 0x00600893 ∷ 0x00000073 ∷ 0x00050293 ∷ 0x0112A023 ∷ 0x00700893 ∷ 0x00000073 ∷ 0x0112A023 ∷ [])) { heap = record { first = 1024; count = 8 } } ∷ [])
+    boot (record (inline 0 P.ExecuteRead (0x00200513 ∷ 0x00600893 ∷ 0x00000073 ∷ 0x00050293 ∷ 0x0112A023 ∷ 0x00700893 ∷ 0x00000073
+    ∷ 0x0112A023 ∷ [])) { heap = record { first = 1024; count = 8 } } ∷ [])
     [] ((1, 0x80000000) ∷ [])
 
 -- how it ends, the map of domain 1, the word that was stored, and the owners
@@ -97,7 +122,12 @@ abbrev freed : State → Freed
 freed s = record { ending = end s; map = map_runs s 1; word = number_at s.core.ram 4096 4; owners = owner_runs s }
 
 alloc-store-free : freed (run (ByQuantum 1) 10 allocating) ≡ record {
-  ending = record { notes = fault 8 0 1 0x8000001c 7 0x80001000 ∷ []; turns = 8; harts = record { pc = 0x8000001c; domain = 1; frames = 0; regs = regs_with ((5, 0x80001000) ∷ (17, 0x7) ∷ []) } ∷ [] };
+  ending = record {
+    notes = fault 8 0 1 0x8000001c 7 0x80001000 ∷ [];
+    turns = 8;
+    harts =
+        record { pc = 0x8000001c; domain = 1; frames = 0; regs = regs_with ((5, 0x80001000) ∷ (17, 0x7) ∷ []) } ∷ [];
+  };
   map = run_of 8 P.ExecuteRead ∷ run_of 16376 P.None ∷ [];
   word = 6;
   owners = run_of 8 1 ∷ run_of 1016 0 ∷ run_of 8 1 ∷ run_of 15352 0 ∷ [];

@@ -105,5 +105,6 @@ other-page = refl
 three-words-need : need K.Packed (map_of (grant 0 3 P.ExecuteRead ∷ []) ∷ []) ≡ counts 2 1 0
 three-words-need = refl
 
-three-words-shown : stored K.Packed (map_of (grant 0 3 P.ExecuteRead ∷ [])) 0 ≡ record { level = L.Leaf; first = 0; count = 16; stored = 0x07c00c0e }
+three-words-shown : stored K.Packed (map_of (grant 0 3 P.ExecuteRead ∷ [])) 0
+    ≡ record { level = L.Leaf; first = 0; count = 16; stored = 0x07c00c0e }
 three-words-shown = refl

@@ -177,7 +177,8 @@ abbrev edges : List Perm
 edges = cells ((30, None) ∷ (1, ReadWrite) ∷ (1, Read) ∷ (8, Read) ∷ (4, ExecuteRead) ∷ (4, ReadWrite) ∷ (20, ReadWrite) ∷ [])
 
 spans-edges : list_map (span K.Packed edges) (31 ∷ 32 ∷ 39 ∷ 40 ∷ 44 ∷ 47 ∷ 48 ∷ 66 ∷ [])
-    ≡ span_of 31 9 Read ∷ span_of 31 9 Read ∷ span_of 31 9 Read ∷ span_of 40 4 ExecuteRead ∷ span_of 44 24 ReadWrite ∷ span_of 44 24 ReadWrite ∷ span_of 44 24 ReadWrite ∷ span_of 44 24 ReadWrite ∷ []
+    ≡ span_of 31 9 Read ∷ span_of 31 9 Read ∷ span_of 31 9 Read ∷ span_of 40 4 ExecuteRead ∷ span_of 44 24 ReadWrite
+    ∷ span_of 44 24 ReadWrite ∷ span_of 44 24 ReadWrite ∷ span_of 44 24 ReadWrite ∷ []
 spans-edges = refl
 
 stored-edges : list_map (stored K.Packed edges) (40 ∷ 60 ∷ [])
@@ -186,7 +187,8 @@ stored-edges = refl
 
 -- a page whose eighths have one permission each, and a line after it
 abbrev eighths_of_page : List Perm
-eighths_of_page = cells ((128, Read) ∷ (128, ReadWrite) ∷ (128, ExecuteRead) ∷ (128, None) ∷ (128, Read) ∷ (128, ExecuteRead) ∷ (128, ReadWrite) ∷ (128, ReadWrite) ∷ (1, Read) ∷ (16, None) ∷ [])
+eighths_of_page = cells ((128, Read) ∷ (128, ReadWrite) ∷ (128, ExecuteRead) ∷ (128, None) ∷ (128, Read) ∷ (128, ExecuteRead)
+    ∷ (128, ReadWrite) ∷ (128, ReadWrite) ∷ (1, Read) ∷ (16, None) ∷ [])
 
 need-of-eighths-multi : need K.Multilevel (eighths_of_page ∷ []) ≡ counts 2 1 0
 need-of-eighths-multi = refl

@@ -1,5 +1,6 @@
 -- Gates of which no two stand for one domain at one word: what is found among them, and what is left without one of them.
-use Rattle.std.proofs.Common.{◌≡◌, ℕ, suc, ◌+◌, ◌<◌, ◌≤◌, Bool, true, false, not, cond, ◌==◌, ◌&&◌, ◌||◌, List, [], ◌∷◌, ◌++◌, length, get_or, take, drop, find, Option, None, Some, inl, inr, refl, sym, ap, ◌∙◌, arith, nat_le}
+use Rattle.std.proofs.Common.{◌≡◌, ℕ, suc, ◌+◌, ◌<◌, ◌≤◌, Bool, true, false, not, cond, ◌==◌, ◌&&◌, ◌||◌, List, [], ◌∷◌, ◌++◌, length}
+use Rattle.std.proofs.Common.{get_or, take, drop, find, Option, None, Some, inl, inr, refl, sym, ap, ◌∙◌, arith, nat_le}
 use Rattle.std.specs.Option.{option_or}
 use Rattle.std.specs.List.{position_or_len, list_any, remove, insert}
 use Rattle.std.proofs.lemmas.Bool.{cases_Bool, and_parts, and_cases, and_from, not-false, leb-false, eqb-true, eq-eqb, false≢true}
@@ -40,7 +41,8 @@ module _ (domain word : ℕ) where
   place_in (g ∷ gates) has =
       let later = position_or_len (is_at domain word) gates in
       elim (cases_Bool (is_at domain word g)) [
-        | inl here ↦ let e : position_or_len (is_at domain word) (g ∷ gates) ≡ 0 = ap (λ b. cond (not b) (1 + later) 0) here in omega (arith, e)
+        | inl here ↦ let e : position_or_len (is_at domain word) (g ∷ gates) ≡ 0 = ap (λ b. cond (not b) (1 + later) 0) here in
+            omega (arith, e)
         | inr there ↦
             let e : position_or_len (is_at domain word) (g ∷ gates) ≡ 1 + later = ap (λ b. cond (not b) (1 + later) 0) there in
             let rest = place_in gates (sym (ap (λ b. b || list_any (is_at domain word) gates) there) ∙ has) in
@@ -58,7 +60,8 @@ module _ (domain word : ℕ) where
         | inl here ↦
             let none : find (is_at domain word) gates ≡ None = find_none-from (is_at domain word) gates
             (λ k d within. elim (cases_Bool (is_at domain word (get_or gates k d))) [
-              | inl too ↦ absurd (false≢true (sym (a 0 (suc k) d (omega arith) (omega arith)) ∙ at_both domain word g (get_or gates k d) here too))
+              | inl too ↦ absurd (false≢true (sym (a 0 (suc k) d (omega arith) (omega arith))
+                  ∙ at_both domain word g (get_or gates k d) here too))
               | inr other ↦ other
             ]) in
             ap (λ b. remove (g ∷ gates) (cond (not b) (1 + later) 0)) here
@@ -66,12 +69,14 @@ module _ (domain word : ℕ) where
         | inr there ↦
             ap (λ b. remove (g ∷ gates) (cond (not b) (1 + later) 0)) there
             ∙ ap (remove (g ∷ gates)) (let e : 1 + later ≡ suc later = omega arith in e)
-            ∙ ap (λ xs. g ∷ xs) (removed gates (AreSingle-tail g gates a) (sym (ap (λ b. b || list_any (is_at domain word) gates) there) ∙ has))
+            ∙ ap (λ xs. g ∷ xs) (removed gates (AreSingle-tail g gates a) (sym (ap (λ b. b || list_any (is_at domain word) gates) there)
+            ∙ has))
             ∙ sym (ap (λ b. cond (not b) (g ∷ rest) rest) there)
       ]
 
   -- where a gate fits, there is room for it once the old one is removed
-  pub without_room : (gates : List Gate) → length gates ≤ 256 → no_gate_fits gates domain word ≡ false → length (without_gate domain word gates) < 256
+  pub without_room : (gates : List Gate) → length gates ≤ 256 → no_gate_fits gates domain word ≡ false
+      → length (without_gate domain word gates) < 256
   without_room gates most fits =
       let fewer : length (without_gate domain word gates) ≤ length gates =
       omega (arith, length-filter_both (is_at domain word) (λ g. not (is_at domain word g)) (λ _. refl) gates) in
@@ -81,7 +86,9 @@ module _ (domain word : ℕ) where
       ]
 
   -- what is found without the gate: nothing there, and elsewhere what was found
-  pub found-without : (gates : List Gate) (domain' word' : ℕ) → gate_at (without_gate domain word gates) domain' word' ≡ cond ((domain' == domain) && (word' == word)) None (gate_at gates domain' word')
+  pub found-without : (gates : List Gate) (domain' word' : ℕ)
+      → gate_at (without_gate domain word gates) domain' word'
+      ≡ cond ((domain' == domain) && (word' == word)) None (gate_at gates domain' word')
   found-without [] domain' word' = cond-same ((domain' == domain) && (word' == word)) None
     where
       cond-same : (c : Bool) (o : Option Gate) → o ≡ cond c o o
@@ -89,15 +96,18 @@ module _ (domain word : ℕ) where
       cond-same false o = refl
   found-without (g ∷ gates) domain' word' =
       pushed (is_at domain word g)
-      ∙ step (is_at domain word g) (is_at domain' word' g) ((domain' == domain) && (word' == word)) (gate_at (without_gate domain word gates) domain' word') (gate_at gates domain' word')
+      ∙ step (is_at domain word g) (is_at domain' word' g) ((domain' == domain) && (word' == word))
+      (gate_at (without_gate domain word gates) domain' word') (gate_at gates domain' word')
       (λ p q. grind arith) (λ p q. grind arith) (found-without gates domain' word')
     where
       pushed : (b : Bool) → gate_at (cond (not b) (g ∷ without_gate domain word gates) (without_gate domain word gates)) domain' word'
-          ≡ cond (not b) (cond (is_at domain' word' g) (Some g) (gate_at (without_gate domain word gates) domain' word')) (gate_at (without_gate domain word gates) domain' word')
+          ≡ cond (not b) (cond (is_at domain' word' g) (Some g) (gate_at (without_gate domain word gates) domain' word'))
+          (gate_at (without_gate domain word gates) domain' word')
       pushed true = refl
       pushed false = refl
 
-      step : (b b' c : Bool) (f x : Option Gate) → (b ≡ true → b' ≡ true → c ≡ true) → (b ≡ false → b' ≡ true → c ≡ false) → f ≡ cond c None x
+      step : (b b' c : Bool) (f x : Option Gate) → (b ≡ true → b' ≡ true → c ≡ true) → (b ≡ false → b' ≡ true → c ≡ false)
+          → f ≡ cond c None x
           → cond (not b) (cond b' (Some g) f) f ≡ cond c None (cond b' (Some g) x)
       step true b' true f x p q rest = rest
       step true true false f x p q rest = absurd (false≢true (p refl refl))
@@ -119,7 +129,8 @@ found-insert gates i g none domain word =
     let w : g.word ≡ word = eqb-true g.word word parts.1 in
     sym (ap (λ x. gate_at gates x g.word) d ∙ ap (λ x. gate_at gates domain x) w) ∙ none)
   where
-    step : (b : Bool) (f s x : Option Gate) → x ≡ option_or f s → (b ≡ true → x ≡ None) → option_or f (cond b (Some g) s) ≡ cond b (Some g) x
+    step : (b : Bool) (f s x : Option Gate) → x ≡ option_or f s → (b ≡ true → x ≡ None)
+        → option_or f (cond b (Some g) s) ≡ cond b (Some g) x
     step true None s x e n = refl
     step true (Some h) s x e n = absurd (let bad : Some h ≡ None = sym e ∙ n refl in cc)
     step false f s x e n = sym e

@@ -1,5 +1,6 @@
 -- What `find` gives past elements that fail, and beside a filter.
-use Rattle.std.proofs.Common.{◌≡◌, ℕ, zero, suc, ◌-◌, ◌<◌, Bool, false, not, cond, ◌||◌, List, [], ◌∷◌, length, get_or, slice_get, filter, find, None, Some, inl, inr, refl, sym, ap, ◌∙◌, arith, true}
+use Rattle.std.proofs.Common.{◌≡◌, ℕ, zero, suc, ◌-◌, ◌<◌, Bool, false, not, cond, ◌||◌, List, [], ◌∷◌, length, get_or, slice_get, filter}
+use Rattle.std.proofs.Common.{find, None, Some, inl, inr, refl, sym, ap, ◌∙◌, arith, true}
 use Rattle.std.specs.Option.{is_some}
 use Rattle.std.specs.List.{list_any, last_or}
 use Rattle.std.proofs.lemmas.Bool.{cases_Bool, false≢true}
@@ -10,17 +11,21 @@ pub filter-find_none : {X : Type 0} (p : X → Bool) (xs : List X) → find p xs
 filter-find_none p [] h = refl
 filter-find_none p (x ∷ xs) h = elim (cases_Bool (p x)) [
   | inl passes ↦ let bad = sym (ap (λ b. cond b (Some x) (find p xs)) passes) ∙ h in cc
-  | inr fails ↦ ap (λ b. cond (not b) (x ∷ filter (λ y. not (p y)) xs) (filter (λ y. not (p y)) xs)) fails ∙ ap (λ ys. x ∷ ys) (filter-find_none p xs (sym (ap (λ b. cond b (Some x) (find p xs)) fails) ∙ h))
+  | inr fails ↦ ap (λ b. cond (not b) (x ∷ filter (λ y. not (p y)) xs) (filter (λ y. not (p y)) xs)) fails
+      ∙ ap (λ ys. x ∷ ys) (filter-find_none p xs (sym (ap (λ b. cond b (Some x) (find p xs)) fails) ∙ h))
 ]
 
 -- one is the first that passes, so that filter leaves something out
-length-filter_some : {X : Type 0} (p : X → Bool) (xs : List X) (found : X) → find p xs ≡ Some found → length (filter (λ x. not (p x)) xs) < length xs
+length-filter_some : {X : Type 0} (p : X → Bool) (xs : List X) (found : X) → find p xs ≡ Some found
+    → length (filter (λ x. not (p x)) xs) < length xs
 length-filter_some p [] found h = cc
 length-filter_some p (x ∷ xs) found h =
     let rest = filter (λ y. not (p y)) xs in
     elim (cases_Bool (p x)) [
-      | inl passes ↦ let e = ap (λ b. length (cond (not b) (x ∷ rest) rest)) passes in omega (arith, e, length-filter_both p (λ y. not (p y)) (λ _. refl) xs)
-      | inr fails ↦ let e = ap (λ b. length (cond (not b) (x ∷ rest) rest)) fails in omega (arith, e, length-filter_some p xs found (sym (ap (λ b. cond b (Some x) (find p xs)) fails) ∙ h))
+      | inl passes ↦ let e = ap (λ b. length (cond (not b) (x ∷ rest) rest)) passes in
+          omega (arith, e, length-filter_both p (λ y. not (p y)) (λ _. refl) xs)
+      | inr fails ↦ let e = ap (λ b. length (cond (not b) (x ∷ rest) rest)) fails in
+          omega (arith, e, length-filter_some p xs found (sym (ap (λ b. cond b (Some x) (find p xs)) fails) ∙ h))
     ]
 
 -- a list with an element that passes has a first one
@@ -51,7 +56,8 @@ find-filter_not p (x ∷ xs) =
     let rest = filter (λ y. not (p y)) xs in
     elim (cases_Bool (p x)) [
       | inl passes ↦ ap (λ b. find p (cond (not b) (x ∷ rest) rest)) passes ∙ find-filter_not p xs
-      | inr fails ↦ ap (λ b. find p (cond (not b) (x ∷ rest) rest)) fails ∙ ap (λ b. cond b (Some x) (find p rest)) fails ∙ find-filter_not p xs
+      | inr fails ↦ ap (λ b. find p (cond (not b) (x ∷ rest) rest)) fails ∙ ap (λ b. cond b (Some x) (find p rest)) fails
+          ∙ find-filter_not p xs
     ]
 
 -- nothing passes, so no element does
@@ -77,6 +83,8 @@ last-slice_get (x ∷ xs) =
     last_is x xs ∙ ap (slice_get (x ∷ xs)) (let e : length xs ≡ suc (length xs) - 1 = omega arith in e)
 
 -- no element passes, so none is the first
-pub find_none-from : {X : Type 0} (p : X → Bool) (xs : List X) → ((k : ℕ) (d : X) → k < length xs → p (get_or xs k d) ≡ false) → find p xs ≡ None
+pub find_none-from : {X : Type 0} (p : X → Bool) (xs : List X) → ((k : ℕ) (d : X) → k < length xs → p (get_or xs k d) ≡ false)
+    → find p xs ≡ None
 find_none-from p [] h = refl
-find_none-from p (x ∷ xs) h = ap (λ b. cond b (Some x) (find p xs)) (h 0 x (omega arith)) ∙ find_none-from p xs (λ k d within. h (suc k) d (omega arith))
+find_none-from p (x ∷ xs) h = ap (λ b. cond b (Some x) (find p xs)) (h 0 x (omega arith))
+    ∙ find_none-from p xs (λ k d within. h (suc k) d (omega arith))

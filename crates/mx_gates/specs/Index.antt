@@ -1,5 +1,6 @@
 -- The index by which a gate is found: the gates sorted by domain and word, and how many of them lie in each bucket.
-use Rattle.std.specs.Prelude.{◌≡◌, ℕ, ◌+◌, ◌*◌, ◌/◌, ◌%◌, ◌<◌, Bool, true, not, ◌==◌, ◌&&◌, ◌||◌, nat_lt, List, length, slice_index, AllPairs}
+use Rattle.std.specs.Prelude.{◌≡◌, ℕ, ◌+◌, ◌*◌, ◌/◌, ◌%◌, ◌<◌, Bool, true, not, ◌==◌, ◌&&◌, ◌||◌, nat_lt, List, length, slice_index}
+use Rattle.std.specs.Prelude.{AllPairs}
 use Rattle.std.specs.List.{position_or_len, count_by}
 use Rattle.mx_model.specs.declared.values.Gate.{Gate}
 use Rattle.mx_model.specs.Gates.{gate_at}

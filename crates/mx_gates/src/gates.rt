@@ -1,8 +1,10 @@
 //! The gates of the machine.
 
-ghost use Rattle.std.specs.Prelude.{◌≡◌, ℕ, ◌<◌, ◌≤◌, true, [], ◌∷◌, ◌++◌, None, OnOk, OnErr, is_err, length, slice_get};
+ghost use Rattle.std.specs.Prelude.{◌≡◌, ℕ, ◌<◌, ◌≤◌, true, [], ◌∷◌, ◌++◌, None, OnOk, OnErr, is_err, length};
+ghost use Rattle.std.specs.Prelude.{slice_get};
 ghost use Rattle.std.specs.Bool.{OnFalse};
-ghost use Rattle.mx_model.specs.Gates.{most_gates, AreSingle, gate_at, gate_target, call_gate, is_return, with_gate, without_gate, has_gate, no_gate_fits};
+ghost use Rattle.mx_model.specs.Gates.{most_gates, AreSingle, gate_at, gate_target, call_gate, is_return, with_gate};
+ghost use Rattle.mx_model.specs.Gates.{without_gate, has_gate, no_gate_fits};
 
 use crate::index::{BUCKETS, before, behind, bucket, first_place, gate_in, place, sorted_place};
 use arrayvec::ArrayVec;
@@ -14,8 +16,10 @@ use std::marker::Model;
 #[derive(Clone, Copy, PartialEq, Eq, Debug)]
 pub struct GatesFull;
 
-/// At most 256 gates in the order in which they were added, at most one for each domain and word. Beside the list stand the
-/// same gates sorted, and how many of them lie in each bucket: a look-up where no gate stands reads one number, unless gates
+/// At most 256 gates in the order in which they were added, at most one for each domain and word. Beside the list stand
+/// the
+/// same gates sorted, and how many of them lie in each bucket: a look-up where no gate stands reads one number, unless
+/// gates
 /// elsewhere share its bucket, and any other search takes at most nine steps, whatever gates stand.
 #[derive(Drop)]
 pub struct Gates {
@@ -49,7 +53,8 @@ impl Gates {
         }
     }
 
-    /// The target of the gate that stands for `domain` at the RAM word `word`, of either sort. `None` exactly where none
+    /// The target of the gate that stands for `domain` at the RAM word `word`, of either sort. `None` exactly where
+    /// none
     /// stands there.
     pub fn target(&self, domain: u32, word: u32) -> Option<u32>
         ensures { result ≡ gate_target self.now domain word }
@@ -60,7 +65,8 @@ impl Gates {
         }
     }
 
-    /// The target of the call gate that stands for `domain` at the RAM word `word`. `None` exactly where no call gate stands
+    /// The target of the call gate that stands for `domain` at the RAM word `word`. `None` exactly where no call gate
+    /// stands
     /// there.
     pub fn call_gate(&self, domain: u32, word: u32) -> Option<u32>
         ensures { result ≡ call_gate self.now domain word }
@@ -81,7 +87,8 @@ impl Gates {
         }
     }
 
-    /// A range of RAM words round `word` in which no gate stands for `domain`, as its first word and the word behind its last. It is
+    /// A range of RAM words round `word` in which no gate stands for `domain`, as its first word and the word behind
+    /// its last. It is
     /// empty or ends at `word` where a gate stands there.
     pub fn clear(&self, domain: u32, word: u32) -> (u32, u32)
         ensures { (w : ℕ) → result.0 ≤ w → w < result.1 → gate_target self.now domain w ≡ None }
@@ -98,7 +105,8 @@ impl Gates {
         }
     }
 
-    /// Appends the gate, and removes the one that stood for its domain at its word. `GatesFull` exactly where 256 gates stand
+    /// Appends the gate, and removes the one that stood for its domain at its word. `GatesFull` exactly where 256 gates
+    /// stand
     /// and none of them there; then nothing has changed.
     pub fn add(&mut self, gate: Gate) -> Result<(), GatesFull>
         ensures ok { OnOk result (self.new ≡ with_gate gate self.old) }
@@ -113,7 +121,8 @@ impl Gates {
         Ok(())
     }
 
-    /// Removes the gate that stands for `domain` at the RAM word `word`. False exactly where none stands there; then nothing
+    /// Removes the gate that stands for `domain` at the RAM word `word`. False exactly where none stands there; then
+    /// nothing
     /// has changed.
     pub fn remove(&mut self, domain: u32, word: u32) -> bool
         ensures stood { result ≡ has_gate self.old domain word }

@@ -10,7 +10,8 @@ use mx_model::Gate;
 /// How many buckets there are.
 pub const BUCKETS: usize = 2048;
 
-/// The bucket of a domain and a word. Gates at neighbouring words lie in buckets of their own, and so do gates at the first
+/// The bucket of a domain and a word. Gates at neighbouring words lie in buckets of their own, and so do gates at the
+/// first
 /// words of neighbouring pages.
 pub fn bucket(domain: u32, word: u32) -> usize
     ensures value { result ≡ bucket domain word }
@@ -85,7 +86,8 @@ pub fn before(gate: Option<Gate>, domain: u32) -> u32 {
     }
 }
 
-/// The width where the gate comes before the domain and word in the order of sorted gates, else 0. Said by what a subtraction
+/// The width where the gate comes before the domain and word in the order of sorted gates, else 0. Said by what a
+/// subtraction
 /// borrows, since the processor would guess at a choice.
 fn step(gate: &Gate, domain: u32, word: u32, width: usize) -> usize
     requires { width < 2 ^ 32 }

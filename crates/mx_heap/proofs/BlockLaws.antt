@@ -9,14 +9,17 @@ use Rattle.mx_words.proofs.AreaLaws.{apart_ordered}
 pub with_block_between : (low mid high : ℕ) (b : Area) (xs ys : List Area) → AreApart low mid xs → mid ≤ b.first → 0 < b.count →
     AreApart (b.first + b.count) high ys → with_block b (xs ++ ys) ≡ xs ++ b ∷ ys
 with_block_between low mid high b [] [] h le some k = refl
-with_block_between low mid high b [] (y ∷ ys) h le some k = let lt : b.first < y.first = omega (arith, k.0) in rw (lt-ltb b.first y.first lt) refl
+with_block_between low mid high b [] (y ∷ ys) h le some k = let lt : b.first < y.first = omega (arith, k.0) in
+    rw (lt-ltb b.first y.first lt) refl
 with_block_between low mid high b (x ∷ xs) ys h le some k =
     let end : x.first + x.count ≤ mid = apart_ordered (x.first + x.count) mid xs h.2 in
     let above : x.first ≤ b.first = omega (arith, h.1) in
-    rw (le-ltb b.first x.first above) (ap (λ (bs : List Area). x ∷ bs) (with_block_between (x.first + x.count) mid high b xs ys h.2 le some k))
+    rw (le-ltb b.first x.first above) (ap (λ (bs : List Area). x ∷ bs)
+    (with_block_between (x.first + x.count) mid high b xs ys h.2 le some k))
 
 -- a block is found where it begins
-pub block_at_between : (low mid : ℕ) (b : Area) (xs ys : List Area) → AreApart low mid xs → mid ≤ b.first → block_words (xs ++ b ∷ ys) b.first ≡ Some b.count
+pub block_at_between : (low mid : ℕ) (b : Area) (xs ys : List Area) → AreApart low mid xs → mid ≤ b.first
+    → block_words (xs ++ b ∷ ys) b.first ≡ Some b.count
 block_at_between low mid b [] ys h le = rw (eq-eqb b.first b.first refl) refl
 block_at_between low mid b (x ∷ xs) ys h le =
     let end : x.first + x.count ≤ mid = apart_ordered (x.first + x.count) mid xs h.2 in

@@ -32,7 +32,8 @@ module _ (first count : ℕ) (ps : List Part) (live capacity : ℕ) (h : ArePart
     room = omega (arith, h.room);
   }
 
-  pub kept_joined : (i : ℕ) (qs : List Part) (room : ℕ) → AfterJoin first (first + count) ps i → qs ≡ joined ps i → room ≡ capacity → AreParts first count qs (live - 1) room
+  pub kept_joined : (i : ℕ) (qs : List Part) (room : ℕ) → AfterJoin first (first + count) ps i → qs ≡ joined ps i → room ≡ capacity
+      → AreParts first count qs (live - 1) room
   kept_joined i qs room a is same = record {
     in_ram = h.in_ram;
     fill = rw is a.fill;

@@ -1,6 +1,8 @@
--- Inner: how a heap stores its area, as parts in the order of their addresses, live blocks and the holes between them. No contract of another crate
+-- Inner: how a heap stores its area, as parts in the order of their addresses, live blocks and the holes between them. No contract of
+-- another crate
 -- cites this file; what a heap means is HeapState, over the definitions of first fit.
-use Rattle.std.specs.Prelude.{ℕ, ◌≡◌, ◌+◌, ◌-◌, ◌*◌, ◌<◌, ◌≤◌, Bool, true, false, not, ◌&&◌, ◌==◌, nat_lt, nat_le, List, [], ◌∷◌, length, map, slice_index_or, slice_set, if◌then◌else◌, Option, Some, None, Result, Ok, Err}
+use Rattle.std.specs.Prelude.{ℕ, ◌≡◌, ◌+◌, ◌-◌, ◌*◌, ◌<◌, ◌≤◌, Bool, true, false, not, ◌&&◌, ◌==◌, nat_lt, nat_le, List, [], ◌∷◌, length}
+use Rattle.std.specs.Prelude.{map, slice_index_or, slice_set, if◌then◌else◌, Option, Some, None, Result, Ok, Err}
 use Rattle.std.specs.List.{insert, remove, position_or_len}
 use Rattle.mx_words.specs.FirstFit.{Area, most_blocks}
 use Rattle.mx_words.specs.Ranges.{most_words}

@@ -9,7 +9,8 @@ pub enum HeapError {
     BlocksFull,
 }
 
-/// A run of RAM words, `first` to `first + count - 1`: a live block, which has at least one word, or a heap area, (0, 0) for none.
+/// A run of RAM words, `first` to `first + count - 1`: a live block, which has at least one word, or a heap area, (0,
+/// 0) for none.
 #[derive(Clone, Copy, PartialEq, Eq, Debug)]
 pub struct Block {
     /// The number of its first word, 0 to 2^24 - 1.

@@ -1,6 +1,7 @@
 //! Heaps of live blocks, placed by first fit.
 
-ghost use Rattle.std.specs.Prelude.{◌≡◌, ◌+◌, ◌<◌, ◌≤◌, ◌↔◌, [], None, Some, length, slice_get, IfOk, OnErr, IfSome, IfNone, IsSome, IsNone, IsErrOf};
+ghost use Rattle.std.specs.Prelude.{◌≡◌, ◌+◌, ◌<◌, ◌≤◌, ◌↔◌, [], None, Some, length, slice_get, IfOk, OnErr, IfSome};
+ghost use Rattle.std.specs.Prelude.{IfNone, IsSome, IsNone, IsErrOf};
 ghost use Rattle.std.specs.Option.{option_map};
 ghost use Rattle.std.specs.Bool.{OnTrue, OnFalse};
 
@@ -126,7 +127,8 @@ impl Heap {
         Ok(first)
     }
 
-    /// Ends the live block that begins at word `first`, and tells its number of words. `None` exactly where no live block
+    /// Ends the live block that begins at word `first`, and tells its number of words. `None` exactly where no live
+    /// block
     /// begins there; then nothing changes.
     pub fn free(&mut self, first: u32) -> Option<u32>
         ensures count { result ≡ block_words self.old.blocks first }
@@ -173,7 +175,8 @@ impl Heap {
         self.blocks.get(i as usize).copied()
     }
 
-    /// Makes this block live. False, with nothing changed, exactly where it has no word, isn't wholly in the area, meets
+    /// Makes this block live. False, with nothing changed, exactly where it has no word, isn't wholly in the area,
+    /// meets
     /// a live block, or 1024 blocks live.
     pub fn restore(&mut self, first: u32, count: u32) -> bool
         ensures restored { result ≡ may_live self.old (record { first = first; count = count }) }

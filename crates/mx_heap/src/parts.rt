@@ -1,9 +1,11 @@
 //! The parts of a heap area: live blocks and holes, in the order of their addresses.
 
-ghost use Rattle.std.specs.Prelude.{◌≡◌, ℕ, ◌+◌, ◌-◌, ◌*◌, ◌<◌, ◌≤◌, ◌^◌, length, nat_le, if◌then◌else◌, vec_len, position};
+ghost use Rattle.std.specs.Prelude.{◌≡◌, ℕ, ◌+◌, ◌-◌, ◌*◌, ◌<◌, ◌≤◌, ◌^◌, length, nat_le, if◌then◌else◌, vec_len};
+ghost use Rattle.std.specs.Prelude.{position};
 ghost use Rattle.std.specs.Vec.{vec_capacity};
 ghost use Rattle.mx_words.specs.FirstFit.{most_blocks};
-ghost use Rattle.mx_heap.specs.Places.{fitting, is_hole_for, is_hole_around, is_block_at, part_at, hole_words, with_hole, without_hole, split, joined, parts_to, AreInOrder};
+ghost use Rattle.mx_heap.specs.Places.{fitting, is_hole_for, is_hole_around, is_block_at, part_at, hole_words};
+ghost use Rattle.mx_heap.specs.Places.{with_hole, without_hole, split, joined, parts_to, AreInOrder};
 
 use crate::block::HeapError;
 use mx_words::MOST_BLOCKS;
@@ -44,7 +46,8 @@ fn parts_to(parts: &[Part], word: u32) -> usize
     low
 }
 
-// The width where `first` is the word or lies before it, else 0. Said by what a subtraction borrows, since the processor would
+// The width where `first` is the word or lies before it, else 0. Said by what a subtraction borrows, since the
+// processor would
 // guess at a choice.
 pub fn step(first: u32, word: u32, width: usize) -> usize
     requires { width < 2 ^ 32 }

@@ -15,12 +15,19 @@ length-with_last_byte b (s ∷ t ∷ segments) = omega (arith, length-with_last_
 count-cons : (s : Segment) (segments : List Segment) → byte_count (s ∷ segments) ≡ length s.bytes + byte_count segments
 count-cons s segments = sum_by-cons (λ x. length x.bytes) s segments
 
-pub byte_count-with_last_byte : (b : ℕ) (segments : List Segment) → 0 < length segments → byte_count (with_last_byte b segments) ≡ byte_count segments + 1
+pub byte_count-with_last_byte : (b : ℕ) (segments : List Segment) → 0 < length segments
+    → byte_count (with_last_byte b segments) ≡ byte_count segments + 1
 byte_count-with_last_byte b [] some = absurd (omega arith)
 byte_count-with_last_byte b (s ∷ []) some =
     omega (arith, count-cons (record s { bytes = s.bytes ++ b ∷ [] }) [], count-cons s [], length-append s.bytes (b ∷ []))
 byte_count-with_last_byte b (s ∷ t ∷ segments) some =
-    omega (arith, count-cons s (with_last_byte b (t ∷ segments)), count-cons s (t ∷ segments), byte_count-with_last_byte b (t ∷ segments) (omega arith))
+    omega (
+      arith,
+      count-cons s (with_last_byte b (t ∷ segments)),
+      count-cons s (t ∷ segments),
+      byte_count-with_last_byte b (t ∷ segments)
+          (omega arith),
+    )
 
 -- one more segment
 pub byte_count-append : (segments : List Segment) (s : Segment) → byte_count (segments ++ s ∷ []) ≡ byte_count segments + length s.bytes

@@ -35,7 +35,8 @@ two = record {
 }
 
 -- the same program piece by piece
-two-built : with_byte 1 (with_segment (segment 0x80001000 6 []) (with_label (label (codes "k") 0x80001000) (with_segment (segment 0x80000800 5 [])
+two-built : with_byte 1 (with_segment (segment 0x80001000 6 [])
+    (with_label (label (codes "k") 0x80001000) (with_segment (segment 0x80000800 5 [])
     (with_byte 0 (with_byte 0 (with_byte 0 (with_byte 0x6F (with_label (label (codes "start") 0x80000000) (with_entry 0x80000000
     (with_segment (segment 0x80000000 5 []) no_program)))))))))) ≡ two
 unfolding segment two
@@ -60,7 +61,8 @@ two-size = refl
 
 -- its second program header, its symbols and its strings
 two-header : take 32 (drop 84 (image_of two))
-    ≡ 1 ∷ 0 ∷ 0 ∷ 0 ∷ 0x78 ∷ 0 ∷ 0 ∷ 0 ∷ 0 ∷ 0x10 ∷ 0 ∷ 0x80 ∷ 0 ∷ 0x10 ∷ 0 ∷ 0x80 ∷ 1 ∷ 0 ∷ 0 ∷ 0 ∷ 1 ∷ 0 ∷ 0 ∷ 0 ∷ 6 ∷ 0 ∷ 0 ∷ 0 ∷ 4 ∷ 0 ∷ 0 ∷ 0 ∷ []
+    ≡ 1 ∷ 0 ∷ 0 ∷ 0 ∷ 0x78 ∷ 0 ∷ 0 ∷ 0 ∷ 0 ∷ 0x10 ∷ 0 ∷ 0x80 ∷ 0 ∷ 0x10 ∷ 0 ∷ 0x80 ∷ 1 ∷ 0 ∷ 0 ∷ 0 ∷ 1 ∷ 0 ∷ 0 ∷ 0 ∷ 6 ∷ 0 ∷ 0 ∷ 0 ∷ 4 ∷ 0
+    ∷ 0 ∷ 0 ∷ []
 unfolding segment two image_with
 two-header = refl
 
@@ -92,7 +94,15 @@ two-lawful = record {
     names = (record { some = omega arith; most = omega arith }, (record { some = omega arith; most = omega arith }, tt));
   };
   entry = omega arith;
-  segments = (record { aligned = refl; flags = inl refl; ends = omega arith }, (record { aligned = refl; flags = inr refl; ends = omega arith }, tt));
+  segments = (
+    record {
+      aligned = refl;
+      flags = inl refl;
+      ends =
+          omega arith;
+    },
+    (record { aligned = refl; flags = inr refl; ends = omega arith }, tt),
+  );
   labels = (
     record { name = (λ e. cc, (λ e. cc, (λ e. cc, (λ e. cc, (λ e. cc, tt))))); address = omega arith },
     (record { name = (λ e. cc, tt); address = omega arith }, tt),

@@ -11,7 +11,8 @@ use Rattle.mx_elf.specs.Segment.{memory_bytes}
 use Rattle.mx_elf.specs.Symbol.{symbol_of}
 use Rattle.mx_image.specs.declared.segment.Segment.{Segment}
 use Rattle.mx_image.specs.Program.{Label, Program, has_bytes, filled, byte_count}
-use Rattle.mx_image.specs.Image.{rounded, padded, file_header, program_headers, contents, symbol_table, strings, null_section, symbol_section, string_section, contents_at, symbols_at, strings_at, sections_at, image_with, image_of}
+use Rattle.mx_image.specs.Image.{rounded, padded, file_header, program_headers, contents, symbol_table, strings, null_section}
+use Rattle.mx_image.specs.Image.{symbol_section, string_section, contents_at, symbols_at, strings_at, sections_at, image_with, image_of}
 use Rattle.mx_image.specs.Lawful.{IsSegment, IsProgram, IsNoLabel, IsTold, placed, read_of, file_bytes}
 use Rattle.mx_image.proofs.Sizes.{small, program_headers_length}
 use Rattle.mx_image.proofs.Loads.{IsLoadable}
@@ -27,7 +28,8 @@ loadable-one s some few h =
     let flags : s.flags < 2 ^ 32 = ⊎_elim (λ e. omega arith) (λ e. omega arith) h.flags in
     record { some = more; size = omega (arith, few); address = omega (arith, more, h.ends); flags = flags; aligned = h.aligned }
 
-pub loadable : (segments : List Segment) → byte_count segments ≤ 4194304 → AllByRecursion IsSegment (filled segments) → AllByRecursion IsLoadable (filled segments)
+pub loadable : (segments : List Segment) → byte_count segments ≤ 4194304 → AllByRecursion IsSegment (filled segments)
+    → AllByRecursion IsLoadable (filled segments)
 loadable [] few = λ all. tt
 loadable (s ∷ segments) few =
     let bytes : byte_count (s ∷ segments) ≡ length s.bytes + byte_count segments = sum_by-cons (λ x. length x.bytes) s segments in
@@ -84,16 +86,19 @@ reads-bytes p h =
     bytes-there (image_of p) (a ++ b) _ at segments (eight a b c d e f g i ∙ cut-3 a b c d e f g i) start
 
 -- and in memory, where they have no more
-memory-file : (bytes : List ℕ) (at : ℕ) (segments : List Segment) → map (memory_bytes bytes) (placed at segments) ≡ map (file_bytes bytes) (placed at segments)
+memory-file : (bytes : List ℕ) (at : ℕ) (segments : List Segment)
+    → map (memory_bytes bytes) (placed at segments) ≡ map (file_bytes bytes) (placed at segments)
 unfolding memory_bytes
 memory-file bytes at [] = refl
 memory-file bytes at (s ∷ segments) =
     let none : length s.bytes - length s.bytes ≡ 0 = omega arith in
-    let same : take (length s.bytes) (drop at bytes) ++ replicate (length s.bytes - length s.bytes) 0 ≡ take (length s.bytes) (drop at bytes) =
+    let same : take (length s.bytes) (drop at bytes) ++ replicate (length s.bytes - length s.bytes) 0
+    ≡ take (length s.bytes) (drop at bytes) =
     rw none (append-nil (take (length s.bytes) (drop at bytes))) in
     rw (same, memory-file bytes (at + rounded (length s.bytes)) segments) refl
 
-pub reads-memory : (p : Program) → IsProgram p → map (memory_bytes (image_of p)) (read_of p).segments ≡ map (λ s. s.bytes) (filled p.segments)
+pub reads-memory : (p : Program) → IsProgram p → map (memory_bytes (image_of p)) (read_of p).segments
+    ≡ map (λ s. s.bytes) (filled p.segments)
 reads-memory p h = memory-file (image_of p) (contents_at (length (filled p.segments))) (filled p.segments) ∙ reads-bytes p h
 
 -- the value of a symbol is the address of the first label with its name
@@ -113,10 +118,13 @@ symbol-of-image p h name =
     let i = string_section (strings_at segments p.labels) (length (strings p.labels)) in
     let head : length a ≡ 52 = refl in
     let names : length (strings p.labels) ≤ 68157441 = omega (arith, sizes.names) in
-    let start : symbols_at segments ≡ length (a ++ b ++ c) = omega (arith, head, length-append (a ++ b) c, length-append a b, program_headers_length at segments) in
+    let start : symbols_at segments ≡ length (a ++ b ++ c) = omega
+    (arith, head, length-append (a ++ b) c, length-append a b, program_headers_length at segments) in
     let high : sections_at segments p.labels < 2 ^ 32 = omega (arith, sizes.segments, sizes.contents, sizes.labels, names) in
-    let fields = header-read (image_of p) p.entry (sections_at segments p.labels) (length segments) _ (eight a b c d e f g i ∙ cut-2 a b c d e f g i) h.entry high (omega (arith, sizes.segments)) in
-    symbol-in-image (image_of p) a b c name p.labels p.entry (length segments) (symbols_at segments) (eight a b c d e f g i) start (omega arith) high fields
+    let fields = header-read (image_of p) p.entry (sections_at segments p.labels) (length segments) _ (eight a b c d e f g i
+    ∙ cut-2 a b c d e f g i) h.entry high (omega (arith, sizes.segments)) in
+    symbol-in-image (image_of p) a b c name p.labels p.entry (length segments) (symbols_at segments) (eight a b c d e f g i) start
+    (omega arith) high fields
     ∙ value-found p.labels name (omega (arith, sizes.names)) h.labels
 
 -- each label is found

@@ -45,7 +45,8 @@ header-fields at s rest lt h = record {
 }
 
 -- after a part
-header-read : (bytes part rest : List ℕ) (place at : ℕ) (s : Segment) → bytes ≡ part ++ (program_header at s ++ rest) → place ≡ length part → at < 2 ^ 32
+header-read : (bytes part rest : List ℕ) (place at : ℕ) (s : Segment) → bytes ≡ part ++ (program_header at s ++ rest) → place ≡ length part
+    → at < 2 ^ 32
     → IsLoadable s → IsRead bytes place at s
 header-read bytes part rest place at s is start lt h =
     let r = header-fields at s rest lt h in
@@ -72,7 +73,8 @@ says : (bytes : List ℕ) (place at : ℕ) (s : Segment) → IsRead bytes place 
 says bytes place at s r = rw (r.offset, r.address, r.file, r.memory, r.flags) refl
 
 -- all program headers
-pub segments-read : (bytes part rest : List ℕ) (place at : ℕ) (segments : List Segment) → bytes ≡ part ++ (program_headers at segments ++ rest) → place ≡ length part
+pub segments-read : (bytes part rest : List ℕ) (place at : ℕ) (segments : List Segment)
+    → bytes ≡ part ++ (program_headers at segments ++ rest) → place ≡ length part
     → at + length (contents segments) < 2 ^ 32 → AllByRecursion IsLoadable segments
     → segments_at bytes (places place 32 (length segments)) ≡ placed at segments
 segments-read bytes part rest place at [] is start lt all = refl
@@ -85,7 +87,8 @@ segments-read bytes part rest place at (s ∷ segments) is start lt all =
     let size = length-contents-cons s segments in
     let r = header-read bytes part tail place at s here start (omega (arith, lt)) all.0 in
     let longer : place + 32 ≡ length (part ++ program_header at s) = omega (arith, start, length-append part (program_header at s)) in
-    let left = segments-read bytes (part ++ program_header at s) rest (place + 32) next segments further longer (omega (arith, lt, size)) all.1 in
+    let left = segments-read bytes (part ++ program_header at s) rest (place + 32) next segments further longer (omega (arith, lt, size))
+    all.1 in
     rw (loads bytes place at s all.0 r, says bytes place at s r, left) refl
 
 -- they have no fault

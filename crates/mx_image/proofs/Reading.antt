@@ -84,8 +84,10 @@ read bytes entry sections segments rest is e s few long small all =
     let headers = fields.headers in
     let number = fields.count_is in
     let loaded : segments_of bytes ≡ placed at segments =
-    rw (headers, number) (segments-read bytes (file_header entry sections (length segments)) rest 52 at segments is refl (omega (arith, few, small)) all) in
+    rw (headers, number) (segments-read bytes (file_header entry sections (length segments)) rest 52 at segments is refl
+    (omega (arith, few, small)) all) in
     let sound : first_fault (rows_of bytes) ≡ None =
     first_row-append (header_rows bytes) (rows_from (length bytes) 0 (segments_of bytes))
-    ∙ rw (header-sound bytes entry sections (length segments) fields (omega (arith, long)), loaded) (segments-sound (length bytes) 0 at segments (omega (arith, few)) long all) in
+    ∙ rw (header-sound bytes entry sections (length segments) fields (omega (arith, long)), loaded)
+    (segments-sound (length bytes) 0 at segments (omega (arith, few)) long all) in
     rw (sound, entry_is, loaded) refl

@@ -1,5 +1,6 @@
 -- The section headers lead to the symbols and their names.
-use Rattle.std.proofs.Common.{◌≡◌, ℕ, ◌+◌, ◌-◌, ◌*◌, ◌^◌, ◌<◌, ◌≤◌, true, List, ◌++◌, length, take, drop, refl, ap, ◌∙◌, arith, append_assoc, nat_le}
+use Rattle.std.proofs.Common.{◌≡◌, ℕ, ◌+◌, ◌-◌, ◌*◌, ◌^◌, ◌<◌, ◌≤◌, true, List, ◌++◌, length, take, drop, refl, ap, ◌∙◌, arith}
+use Rattle.std.proofs.Common.{append_assoc, nat_le}
 use Rattle.std.specs.Prelude.{Some, replicate}
 use Rattle.std.proofs.lemmas.List.{length-append}
 use Rattle.std.proofs.lemmas.Bool.Decides.{nat_tests}
@@ -24,9 +25,15 @@ record IsSection (bytes : List ℕ) (place type at size link : ℕ) : Type 0 whe
   size_is : word_at bytes (place + 20) ≡ size
   link_is : word_at bytes (place + 24) ≡ link
 
-symbol-section-fields : (at count : ℕ) (rest : List ℕ) → at < 2 ^ 32 → 16 * count < 2 ^ 32 → IsSection (symbol_section at count ++ rest) 0 2 at (16 * count) 2
+symbol-section-fields : (at count : ℕ) (rest : List ℕ) → at < 2 ^ 32 → 16 * count < 2 ^ 32
+    → IsSection (symbol_section at count ++ rest) 0 2 at (16 * count) 2
 unfolding word_at number_at
-symbol-section-fields at count rest a c = record { type_is = refl; offset_is = four-bytes at a; size_is = four-bytes (16 * count) c; link_is = refl }
+symbol-section-fields at count rest a c = record {
+  type_is = refl;
+  offset_is = four-bytes at a;
+  size_is = four-bytes (16 * count) c;
+  link_is = refl;
+}
 
 string-section-fields : (at size : ℕ) → at < 2 ^ 32 → size < 2 ^ 32 → IsSection (string_section at size) 0 3 at size 0
 unfolding word_at number_at
@@ -57,7 +64,8 @@ record IsTabled (bytes symbols names : List ℕ) (sections symbols_place names_p
   names_inside : names_place + length names ≤ length bytes
   names_are : take (length names) (drop names_place bytes) ≡ names
 
-sections-there : (bytes symbols names : List ℕ) (sections symbols_place names_place : ℕ) → IsTabled bytes symbols names sections symbols_place names_place
+sections-there : (bytes symbols names : List ℕ) (sections symbols_place names_place : ℕ)
+    → IsTabled bytes symbols names sections symbols_place names_place
     → symbol_table_of bytes ≡ Some (sections + 40)
 unfolding symbol_table_of
 sections-there bytes symbols names sections symbols_place names_place t =
@@ -79,12 +87,14 @@ section-there bytes x place type at link s inside is =
     let whole : nat_le (at + length x) (length bytes) ≡ true = grind (arith, nat_tests) in
     rw (offset, size, whole, is) refl
 
-names-place : (bytes : List ℕ) (sections : ℕ) → word_at bytes 32 ≡ sections → half_at bytes 48 ≡ 3 → section_place bytes 2 ≡ Some (sections + 80)
+names-place : (bytes : List ℕ) (sections : ℕ) → word_at bytes 32 ≡ sections → half_at bytes 48 ≡ 3
+    → section_place bytes 2 ≡ Some (sections + 80)
 unfolding section_place
 names-place bytes sections place count = rw (place, count) refl
 
 -- a symbol is looked for in these symbols and names
-symbol-there : (bytes symbols names wanted : List ℕ) (sections symbols_place names_place : ℕ) → IsTabled bytes symbols names sections symbols_place names_place
+symbol-there : (bytes symbols names wanted : List ℕ) (sections symbols_place names_place : ℕ)
+    → IsTabled bytes symbols names sections symbols_place names_place
     → symbol_of bytes wanted ≡ value_of symbols names wanted
 unfolding symbol_of
 symbol-there bytes symbols names wanted sections symbols_place names_place t =
@@ -115,10 +125,14 @@ symbol-in-image bytes a b c wanted labels entry count at is start low high h =
     let table : length d ≡ 16 * (length labels + 1) = symbol_table_length labels in
     let places : length e ≡ rounded (length (strings labels)) = padded_length (strings labels) in
     let names_start : names_at ≡ length (a ++ b ++ c ++ d) = omega (arith, start, table, length-append (a ++ b ++ c) d) in
-    let sections_start : sections ≡ length (a ++ b ++ c ++ d ++ e) = omega (arith, names_start, places, length-append (a ++ b ++ c ++ d) e) in
-    let table_start : sections + 40 ≡ length (a ++ b ++ c ++ d ++ e ++ f) = omega (arith, sections_start, length-append (a ++ b ++ c ++ d ++ e) f) in
-    let string_start : sections + 80 ≡ length (a ++ b ++ c ++ d ++ e ++ f ++ g) = omega (arith, table_start, length-append (a ++ b ++ c ++ d ++ e ++ f) g) in
-    let whole : length bytes ≡ sections + 120 = omega (arith, ap length is, string_start, length-append (a ++ b ++ c ++ d ++ e ++ f ++ g) i) in
+    let sections_start : sections ≡ length (a ++ b ++ c ++ d ++ e) =
+    omega (arith, names_start, places, length-append (a ++ b ++ c ++ d) e) in
+    let table_start : sections + 40 ≡ length (a ++ b ++ c ++ d ++ e ++ f) =
+    omega (arith, sections_start, length-append (a ++ b ++ c ++ d ++ e) f) in
+    let string_start : sections + 80 ≡ length (a ++ b ++ c ++ d ++ e ++ f ++ g) =
+    omega (arith, table_start, length-append (a ++ b ++ c ++ d ++ e ++ f) g) in
+    let whole : length bytes ≡ sections + 120 = omega (arith, ap length is, string_start, length-append (a ++ b ++ c ++ d ++ e ++ f ++ g) i)
+    in
     let zeros : List ℕ = replicate (rounded (length (strings labels)) - length (strings labels)) 0 in
     let cut-names : bytes ≡ (a ++ b ++ c ++ d) ++ (strings labels ++ (zeros ++ (f ++ (g ++ i)))) =
     is ∙ cut-5 a b c d e f g i ∙ ap (λ (xs : List ℕ). (a ++ b ++ c ++ d) ++ xs) (append_assoc (strings labels) zeros (f ++ (g ++ i))) in
@@ -128,13 +142,17 @@ symbol-in-image bytes a b c wanted labels entry count at is start low high h =
       count_is = h.section_count;
       headers = omega (arith, low);
       inside = omega (arith, whole);
-      null = word-behind bytes (a ++ b ++ c ++ d ++ e) (f ++ (g ++ i)) sections 4 (is ∙ cut-6 a b c d e f g i) sections_start ∙ null-type (g ++ i);
-      table = rw table (section-behind bytes (a ++ b ++ c ++ d ++ e ++ f) (g ++ i) (sections + 40) 2 at (16 * (length labels + 1)) 2 (is ∙ cut-7 a b c d e f g i) table_start
+      null = word-behind bytes (a ++ b ++ c ++ d ++ e) (f ++ (g ++ i)) sections 4 (is ∙ cut-6 a b c d e f g i) sections_start
+          ∙ null-type (g ++ i);
+      table = rw table (section-behind bytes (a ++ b ++ c ++ d ++ e ++ f) (g ++ i) (sections + 40) 2 at (16 * (length labels + 1)) 2 (is
+          ∙ cut-7 a b c d e f g i) table_start
           (symbol-section-fields at (length labels + 1) i (omega (arith, high)) (omega (arith, high))));
-      string = section-behind bytes (a ++ b ++ c ++ d ++ e ++ f ++ g) i (sections + 80) 3 names_at (length (strings labels)) 0 is string_start
+      string = section-behind bytes (a ++ b ++ c ++ d ++ e ++ f ++ g) i (sections + 80) 3 names_at (length (strings labels)) 0 is
+          string_start
           (string-section-fields names_at (length (strings labels)) (omega (arith, high)) (omega (arith, high)));
       symbols_inside = omega (arith, table, whole);
       symbols_are = piece bytes (a ++ b ++ c) d (e ++ (f ++ (g ++ i))) at (length d) (is ∙ cut-4 a b c d e f g i) start refl;
       names_inside = omega (arith, whole);
-      names_are = piece bytes (a ++ b ++ c ++ d) (strings labels) (zeros ++ (f ++ (g ++ i))) names_at (length (strings labels)) cut-names names_start refl;
+      names_are = piece bytes (a ++ b ++ c ++ d) (strings labels) (zeros ++ (f ++ (g ++ i))) names_at (length (strings labels)) cut-names
+          names_start refl;
     }

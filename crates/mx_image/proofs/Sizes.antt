@@ -22,7 +22,12 @@ length-words (n ∷ ns) = omega (arith, length-words ns)
 -- bytes up to a multiple of 4
 pub padded_length : (bytes : List ℕ) → length (padded bytes) ≡ rounded (length bytes)
 padded_length bytes =
-    omega (arith, length-append bytes (replicate (rounded (length bytes) - length bytes) 0), length-replicate {A = ℕ} (rounded (length bytes) - length bytes) 0)
+    omega (
+      arith,
+      length-append bytes (replicate (rounded (length bytes) - length bytes) 0),
+      length-replicate {A = ℕ}
+          (rounded (length bytes) - length bytes) 0,
+    )
 
 -- the headers of segments
 pub program_headers_length : (at : ℕ) (segments : List Segment) → length (program_headers at segments) ≡ 32 * length segments
@@ -30,8 +35,10 @@ program_headers_length at [] = refl
 program_headers_length at (s ∷ segments) = omega (arith, program_headers_length (at + rounded (length s.bytes)) segments)
 
 -- the contents of a segment and of others
-pub length-contents-cons : (s : Segment) (segments : List Segment) → length (contents (s ∷ segments)) ≡ rounded (length s.bytes) + length (contents segments)
-length-contents-cons s segments = length-append (padded s.bytes) (contents segments) ∙ ap (λ (n : ℕ). n + length (contents segments)) (padded_length s.bytes)
+pub length-contents-cons : (s : Segment) (segments : List Segment)
+    → length (contents (s ∷ segments)) ≡ rounded (length s.bytes) + length (contents segments)
+length-contents-cons s segments = length-append (padded s.bytes) (contents segments)
+    ∙ ap (λ (n : ℕ). n + length (contents segments)) (padded_length s.bytes)
 
 -- at most 3 zero bytes for each segment that has bytes
 pub contents-most : (segments : List Segment) → length (contents (filled segments)) ≤ byte_count segments + 3 * length (filled segments)
@@ -40,7 +47,8 @@ contents-most (s ∷ segments) =
     let bytes : byte_count (s ∷ segments) ≡ length s.bytes + byte_count segments = sum_by-cons (λ x. length x.bytes) s segments in
     cond_both (has_bytes s) (s ∷ filled segments) (filled segments)
     (λ left. length (contents left) ≤ byte_count (s ∷ segments) + 3 * length left)
-    (λ _. omega (arith, bytes, length-contents-cons s (filled segments), contents-most segments)) (λ _. omega (arith, bytes, contents-most segments))
+    (λ _. omega (arith, bytes, length-contents-cons s (filled segments), contents-most segments)) (λ _.
+    omega (arith, bytes, contents-most segments))
 
 -- the symbols of labels
 pub length-symbols_from : (at : ℕ) (labels : List Label) → length (symbols_from at labels) ≡ 16 * length labels
@@ -52,7 +60,8 @@ symbol_table_length labels = omega (arith, length-symbols_from 1 labels)
 
 -- names with their zero bytes
 pub length-names-cons : (l : Label) (labels : List Label) → length (names (l ∷ labels)) ≡ length l.name + 1 + length (names labels)
-length-names-cons l labels = length-append (l.name ++ 0 ∷ []) (names labels) ∙ ap (λ (n : ℕ). n + length (names labels)) (length-append l.name (0 ∷ []))
+length-names-cons l labels = length-append (l.name ++ 0 ∷ []) (names labels)
+    ∙ ap (λ (n : ℕ). n + length (names labels)) (length-append l.name (0 ∷ []))
 
 pub names-most : (labels : List Label) → AllByRecursion (λ l. IsName l.name) labels → length (names labels) ≤ 65 * length labels
 names-most [] all = omega arith

@@ -9,7 +9,8 @@ use Rattle.mx_image.specs.Lawful.{placed}
 use Rattle.mx_image.proofs.Sizes.{padded_length}
 
 -- a piece of a list
-pub piece : (bytes part x rest : List ℕ) (at n : ℕ) → bytes ≡ part ++ (x ++ rest) → at ≡ length part → n ≡ length x → take n (drop at bytes) ≡ x
+pub piece : (bytes part x rest : List ℕ) (at n : ℕ) → bytes ≡ part ++ (x ++ rest) → at ≡ length part → n ≡ length x
+    → take n (drop at bytes) ≡ x
 piece bytes part x rest at n is start size =
     rw (is, start, size) (ap (λ (xs : List ℕ). take (length x) xs) (drop-append_seam part (x ++ rest)) ∙ take-append_seam x rest)
 
@@ -37,17 +38,21 @@ pub eight : (a b c d e f g h : List ℕ) → a ++ b ++ c ++ d ++ e ++ (f ++ g ++
 eight a b c d e f g h = simp append_assoc
 
 -- the bytes of segments where the program headers say that they stand
-pub bytes-there : (bytes part rest : List ℕ) (at : ℕ) (segments : List Segment) → bytes ≡ part ++ (contents segments ++ rest) → at ≡ length part
+pub bytes-there : (bytes part rest : List ℕ) (at : ℕ) (segments : List Segment) → bytes ≡ part ++ (contents segments ++ rest)
+    → at ≡ length part
     → map (λ s. take s.file (drop s.offset bytes)) (placed at segments) ≡ map (λ s. s.bytes) segments
 bytes-there bytes part rest at [] is start = refl
 bytes-there bytes part rest at (s ∷ segments) is start =
     let zeros = replicate (rounded (length s.bytes) - length s.bytes) 0 in
     let tail = contents segments ++ rest in
-    let whole : bytes ≡ part ++ (padded s.bytes ++ tail) = is ∙ ap (λ (xs : List ℕ). part ++ xs) (append_assoc (padded s.bytes) (contents segments) rest) in
+    let whole : bytes ≡ part ++ (padded s.bytes ++ tail) = is
+    ∙ ap (λ (xs : List ℕ). part ++ xs) (append_assoc (padded s.bytes) (contents segments) rest) in
     let further : bytes ≡ (part ++ padded s.bytes) ++ tail = whole ∙ sym (append_assoc part (padded s.bytes) tail) in
     let longer : at + rounded (length s.bytes) ≡ length (part ++ padded s.bytes) =
-    ap (λ (n : ℕ). n + rounded (length s.bytes)) start ∙ ap (λ (n : ℕ). length part + n) (sym (padded_length s.bytes)) ∙ sym (length-append part (padded s.bytes)) in
+    ap (λ (n : ℕ). n + rounded (length s.bytes)) start ∙ ap (λ (n : ℕ). length part + n) (sym (padded_length s.bytes))
+    ∙ sym (length-append part (padded s.bytes)) in
     let here : take (length s.bytes) (drop at bytes) ≡ s.bytes =
-    piece bytes part s.bytes (zeros ++ tail) at (length s.bytes) (whole ∙ ap (λ (xs : List ℕ). part ++ xs) (append_assoc s.bytes zeros tail)) start refl in
+    piece bytes part s.bytes (zeros ++ tail) at (length s.bytes) (whole
+    ∙ ap (λ (xs : List ℕ). part ++ xs) (append_assoc s.bytes zeros tail)) start refl in
     let left = bytes-there bytes (part ++ padded s.bytes) rest (at + rounded (length s.bytes)) segments further longer in
     rw (here, left) refl

@@ -14,7 +14,8 @@ pub symbols-step : (out new total : List ℕ) (at : ℕ) (labels : List NamedAdd
     → new ++ symbols_from (at + length (get_or labels i d).name.now + 1) (labels_of (drop (i + 1) labels)) ≡ total
 symbols-step out new total at labels i d lt h is =
     let here = at_drop_more (λ (rest : List NamedAddress). symbols_from at (labels_of rest)) labels i d lt in
-    rw is (append_assoc out (symbol at (label_of (get_or labels i d))) (symbols_from (at + length (get_or labels i d).name.now + 1) (labels_of (drop (i + 1) labels)))
+    rw is (append_assoc out (symbol at (label_of (get_or labels i d)))
+    (symbols_from (at + length (get_or labels i d).name.now + 1) (labels_of (drop (i + 1) labels)))
     ∙ ap (λ (xs : List ℕ). out ++ xs) (sym here) ∙ h)
 
 -- what is left of the filled segments at one with bytes

@@ -1,5 +1,6 @@
 -- The symbols of an image are found by their names.
-use Rattle.std.proofs.Common.{◌≡◌, ◌≢◌, ℕ, suc, ◌+◌, ◌/◌, ◌^◌, ◌<◌, Bool, true, false, cond, List, [], ◌∷◌, ◌++◌, length, drop, refl, sym, ap, ◌∙◌, arith, append_assoc, ◌==◌}
+use Rattle.std.proofs.Common.{◌≡◌, ◌≢◌, ℕ, suc, ◌+◌, ◌/◌, ◌^◌, ◌<◌, Bool, true, false, cond, List, [], ◌∷◌, ◌++◌, length, drop, refl, sym}
+use Rattle.std.proofs.Common.{ap, ◌∙◌, arith, append_assoc, ◌==◌}
 use Rattle.std.specs.Prelude.{Option, Some, None, find, option_map}
 use Rattle.std.specs.Str.{bytes_eq}
 use Rattle.std.specs.List.{AllByRecursion}
@@ -79,18 +80,23 @@ values symbols part more strings before rest place at (l ∷ labels) wanted is s
     let tail = symbols_from next labels ++ more in
     let end = names labels ++ rest in
     let size = length-names-cons l labels in
-    let here : symbols ≡ part ++ (symbol at l ++ tail) = is ∙ ap (λ (xs : List ℕ). part ++ xs) (append_assoc (symbol at l) (symbols_from next labels) more) in
+    let here : symbols ≡ part ++ (symbol at l ++ tail) = is ∙ ap (λ (xs : List ℕ). part ++ xs)
+    (append_assoc (symbol at l) (symbols_from next labels) more) in
     let further : symbols ≡ (part ++ symbol at l) ++ tail = here ∙ sym (append_assoc part (symbol at l) tail) in
     let longer : place + 16 ≡ length (part ++ symbol at l) = omega (arith, start, length-append part (symbol at l)) in
-    let one : strings ≡ before ++ ((l.name ++ 0 ∷ []) ++ end) = named ∙ ap (λ (xs : List ℕ). before ++ xs) (append_assoc (l.name ++ 0 ∷ []) (names labels) rest) in
+    let one : strings ≡ before ++ ((l.name ++ 0 ∷ []) ++ end) = named
+    ∙ ap (λ (xs : List ℕ). before ++ xs) (append_assoc (l.name ++ 0 ∷ []) (names labels) rest) in
     let first : strings ≡ before ++ (l.name ++ 0 ∷ end) = one ∙ ap (λ (xs : List ℕ). before ++ xs) (append_assoc l.name (0 ∷ []) end) in
     let behind : strings ≡ (before ++ (l.name ++ 0 ∷ [])) ++ end = one ∙ sym (append_assoc before (l.name ++ 0 ∷ []) end) in
-    let gone : next ≡ length (before ++ (l.name ++ 0 ∷ [])) = omega (arith, begun, length-append before (l.name ++ 0 ∷ []), length-append l.name (0 ∷ [])) in
+    let gone : next ≡ length (before ++ (l.name ++ 0 ∷ [])) =
+    omega (arith, begun, length-append before (l.name ++ 0 ∷ []), length-append l.name (0 ∷ [])) in
     let r = symbol-read symbols part tail place at l here start (omega (arith, small)) all.0.address in
     let test = defined symbols strings before end place at l wanted r first begun all.0.name in
-    let left = values symbols (part ++ symbol at l) more strings (before ++ (l.name ++ 0 ∷ [])) rest (place + 16) next labels wanted further longer behind gone (omega (arith, small, size)) all.1 in
+    let left = values symbols (part ++ symbol at l) more strings (before ++ (l.name ++ 0 ∷ [])) rest (place + 16) next labels wanted further
+    longer behind gone (omega (arith, small, size)) all.1 in
     rw test (chosen (bytes_eq l.name wanted) (st_value symbols) (λ m. m.address) place l
-    (find (is_defined symbols strings wanted) (places (place + 16) 16 (length labels))) (find (λ m. bytes_eq m.name wanted) labels) r.value_is left)
+    (find (is_defined symbols strings wanted) (places (place + 16) 16 (length labels))) (find (λ m. bytes_eq m.name wanted) labels)
+    r.value_is left)
 
 -- the null symbol has no name
 null-undefined : (rest strings wanted : List ℕ) → is_defined (null_symbol ++ rest) strings wanted 0 ≡ false
@@ -107,7 +113,8 @@ value-found labels wanted small all =
     ap (λ (xs : List ℕ). null_symbol ++ xs) (sym (append-nil (symbols_from 1 labels))) in
     let names_end : strings labels ≡ (0 ∷ []) ++ (names labels ++ []) = ap (λ (xs : List ℕ). 0 ∷ xs) (sym (append-nil (names labels))) in
     rw (count, null-undefined (symbols_from 1 labels) (strings labels) wanted)
-    (values (symbol_table labels) null_symbol [] (strings labels) (0 ∷ []) [] 16 1 labels wanted symbols_end refl names_end refl (omega (arith, small)) all)
+    (values (symbol_table labels) null_symbol [] (strings labels) (0 ∷ []) [] 16 1 labels wanted symbols_end refl names_end refl
+    (omega (arith, small)) all)
 
 go : {P : Type 0} (b : Bool) → (b ≡ true → P) → (P → ⊥) → b ≡ false
 go true tells apart = absurd (apart (tells refl))
@@ -117,7 +124,8 @@ go false tells apart = refl
 differ : (xs ys : List ℕ) → xs ≢ ys → bytes_eq xs ys ≡ false
 differ xs ys apart = go (bytes_eq xs ys) (bytes_eq-Decides xs ys).0 apart
 
-further : (x : Label) (xs ys : List Label) → AllByRecursion (λ m. x.name ≢ m.name) ys → AllByRecursion (λ m. address_of xs m.name ≡ Some m.address) ys
+further : (x : Label) (xs ys : List Label) → AllByRecursion (λ m. x.name ≢ m.name) ys
+    → AllByRecursion (λ m. address_of xs m.name ≡ Some m.address) ys
     → AllByRecursion (λ m. address_of (x ∷ xs) m.name ≡ Some m.address) ys
 further x xs [] apart all = tt
 further x xs (y ∷ ys) apart all = (rw (differ x.name y.name apart.0) all.0, further x xs ys apart.1 all.1)

@@ -2,10 +2,12 @@
 use Rattle.std.proofs.Common.{◌≡◌, ℕ, ◌+◌, List, [], ◌++◌, length, refl}
 use Rattle.mx_image.specs.declared.segment.Segment.{Segment}
 use Rattle.mx_image.specs.Program.{Label}
-use Rattle.mx_image.specs.Image.{file_header, program_headers, contents, symbol_table, padded, strings, section_headers, contents_at, symbols_at, strings_at, sections_at, image_with}
+use Rattle.mx_image.specs.Image.{file_header, program_headers, contents, symbol_table, padded, strings, section_headers, contents_at}
+use Rattle.mx_image.specs.Image.{symbols_at, strings_at, sections_at, image_with}
 
 -- a layout, and what was written after each part
-pub record IsWritten (entry : ℕ) (segments : List Segment) (labels : List Label) (count start symbols symbols_place size strings_place sections : ℕ)
+pub record IsWritten (entry : ℕ) (segments : List Segment) (labels : List Label)
+    (count start symbols symbols_place size strings_place sections : ℕ)
     (a b c d e f : List ℕ) : Type 0 where
   pub count_is : count ≡ length segments
   pub start_is : start ≡ contents_at (length segments)
@@ -28,4 +30,19 @@ pub whole : (entry : ℕ) (segments : List Segment) (labels : List Label) (count
     → g ≡ image_with entry segments labels
 unfolding image_with
 whole entry segments labels count start symbols symbols_place size strings_place sections a b c d e f g w is =
-    rw (is, w.names, w.table, w.bytes, w.headers, w.header, w.none, w.count_is, w.start_is, w.symbols_is, w.symbols_place_is, w.size_is, w.strings_place_is, w.sections_is) refl
+    rw (
+      is,
+      w.names,
+      w.table,
+      w.bytes,
+      w.headers,
+      w.header,
+      w.none,
+      w.count_is,
+      w.start_is,
+      w.symbols_is,
+      w.symbols_place_is,
+      w.size_is,
+      w.strings_place_is,
+      w.sections_is,
+    ) refl

@@ -1,6 +1,7 @@
 -- Programs that have an image, and how a loader reads it.
 use Rattle.std.specs.Prelude.{◌≡◌, ◌≢◌, ◌⊎◌, ℕ, ◌+◌, ◌^◌, ◌%◌, ◌<◌, ◌≤◌, List, [], ◌∷◌, length, take, drop, Some}
 use Rattle.std.specs.List.{AllByRecursion}
+use Rattle.mx_words.specs.Limits.{most_segments, most_segment_bytes}
 use Rattle.mx_elf.specs.declared.image.Image.{Image}
 use Rattle.mx_elf.specs.declared.segment.Seg.{Seg}
 use Rattle.mx_elf.specs.Symbol.{symbol_of}
@@ -15,8 +16,8 @@ pub record IsName (name : List ℕ) : Type 0 where
 
 -- a program that an image of less than 2^31 bytes can hold
 pub record IsSized (p : Program) : Type 0 where
-  pub segments : length (filled p.segments) ≤ 16
-  pub bytes : byte_count p.segments ≤ 4194304
+  pub segments : length (filled p.segments) ≤ most_segments
+  pub bytes : byte_count p.segments ≤ most_segment_bytes
   pub labels : length p.labels ≤ 2 ^ 20
   pub names : AllByRecursion (λ l. IsName l.name) p.labels
 

@@ -9,7 +9,8 @@ ghost use Rattle.mx_image.specs.Program.{Program, filled_bytes};
 ghost use Rattle.mx_image.specs.Image.{image_of};
 ghost use Rattle.mx_image.specs.Lawful.{IsProgram, IsNoLabel, IsTold, read_of, file_bytes};
 
-/// The image of a program is read without fault: with the program's entry, and with one segment for each that has bytes,
+/// The image of a program is read without fault: with the program's entry, and with one segment for each that has
+/// bytes,
 /// in order, whose bytes in the file and in memory are the segment's.
 pub fn image_is_read()
     ensures read { (p : Program) → IsProgram p → image_read (image_of p) ≡ Ok (read_of p) }

@@ -3,7 +3,9 @@
 ghost use Rattle.std.specs.Prelude.{◌≡◌, ◌+◌, ◌*◌, ◌≤◌, ◌<◌, ◌^◌, ◌++◌, [], length, IfOk, OnOk};
 ghost use Rattle.mx_image.specs.Program.{filled};
 ghost use Rattle.mx_image.specs.Labels.{label_of, labels_of};
-ghost use Rattle.mx_image.specs.Image.{rounded, padded, file_header, program_header, program_headers, contents, symbol, symbol_table, symbols_from, names, strings, symbol_section, string_section, section_headers, image_with, image_of};
+ghost use Rattle.mx_image.specs.Image.{rounded, padded, file_header, program_header, program_headers, contents, symbol};
+ghost use Rattle.mx_image.specs.Image.{symbol_table, symbols_from, names, strings, symbol_section, string_section};
+ghost use Rattle.mx_image.specs.Image.{section_headers, image_with, image_of};
 ghost use Rattle.mx_image.specs.Layout.{layout_of};
 ghost use Rattle.mx_image.specs.Lawful.{IsSized};
 
@@ -18,7 +20,8 @@ use mx_words::{Blob, NoMemory};
 use std::alloc::Global;
 
 /// The image of a program: an executable file whose bytes are those that `image_of` says. The program has at most 16
-/// segments with bytes, 4194304 bytes in all of them together, and 2^20 labels, whose names have 1 to 64 bytes each. Its
+/// segments with bytes, 4194304 bytes in all of them together, and 2^20 labels, whose names have 1 to 64 bytes each.
+/// Its
 /// only refusal is want of memory.
 pub fn write(alloc: Global, program: &ProgramBuilder) -> Result<Blob, NoMemory>
     requires { IsSized program.now }

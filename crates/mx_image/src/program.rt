@@ -1,7 +1,8 @@
 //! Programs, piece by piece.
 
 ghost use Rattle.std.specs.Prelude.{◌≡◌, ◌+◌, ◌<◌, ◌≤◌, ◌^◌, length, OnOk, OnErr};
-ghost use Rattle.mx_image.specs.Program.{label, byte_count, no_program, with_entry, with_segment, with_byte, with_bytes, with_label};
+ghost use Rattle.mx_image.specs.Program.{label, byte_count, no_program, with_entry, with_segment, with_byte};
+ghost use Rattle.mx_image.specs.Program.{with_bytes, with_label};
 
 use crate::segment::Segment;
 use mx_words::NoMemory;
@@ -75,7 +76,8 @@ impl<'a> ProgramBuilder<'a> {
         segment.bytes.push(byte)
     }
 
-    /// Appends bytes to the last segment in one piece. At least one segment is begun, and all together then hold at most
+    /// Appends bytes to the last segment in one piece. At least one segment is begun, and all together then hold at
+    /// most
     /// 2^31 bytes. Where memory is refused, the program stays as it was.
     pub fn add_bytes(&mut self, bytes: &[u8]) -> Result<(), NoMemory>
         requires begun { 0 < length self.old.segments }

@@ -1,4 +1,5 @@
-//! Zero bytes and numbers at the end of a list of bytes, each number little-endian (System V gABI, "Data Representation").
+//! Zero bytes and numbers at the end of a list of bytes, each number little-endian (System V gABI, "Data
+//! Representation").
 
 ghost use Rattle.std.specs.Prelude.{◌≡◌, ◌+◌, ◌*◌, ◌≤◌, ◌^◌, ◌++◌, length, replicate, OnOk};
 ghost use Rattle.mx_image.specs.Image.{halves, words};

@@ -1,5 +1,6 @@
 -- A boot doesn't read the names of the files of inputs.
-use Rattle.std.proofs.Common.{◌≡◌, ℕ, ◌+◌, ◌-◌, ◌++◌, List, [], ◌∷◌, length, map, replicate, fold, slice_get, Option, Some, None, refl, ap, ◌∙◌}
+use Rattle.std.proofs.Common.{◌≡◌, ℕ, ◌+◌, ◌-◌, ◌++◌, List, [], ◌∷◌, length, map, replicate, fold, slice_get, Option, Some, None, refl, ap}
+use Rattle.std.proofs.Common.{◌∙◌}
 use Rattle.std.specs.Prelude.{◌*◌, option_map, option_and_then, slice_set, unwrap_or}
 use Rattle.std.specs.List.{enumerate_from, flat_map}
 use Rattle.std.specs.Option.{option_map_or}
@@ -13,8 +14,10 @@ use Rattle.mx_manifest.specs.declared.parts.HartPlan.{HartPlan}
 use Rattle.mx_manifest.specs.declared.parts.InputPlan.{InputPlan}
 use Rattle.mx_manifest.specs.declared.parts.ModulePlan.{ModulePlan}
 use Rattle.mx_manifest.specs.Plan.{Said}
-use Rattle.mx_boot.specs.Areas.{Home, areas, areas_of, all_inputs, contents, heaps, home, homes, input_area, input_content, pieces, placed_input, stacks}
-use Rattle.mx_boot.specs.Boot.{boot_gives, boot_grants, boot_of, boot_ram, boot_state, gives_of, grant, give, grants_of, hart_at_boot, limit_of, limited, module_of, owned_pieces, stack_address, unless, with_content}
+use Rattle.mx_boot.specs.Areas.{Home, areas, areas_of, all_inputs, contents, heaps, home, homes, input_area, input_content, pieces}
+use Rattle.mx_boot.specs.Areas.{placed_input, stacks}
+use Rattle.mx_boot.specs.Boot.{boot_gives, boot_grants, boot_of, boot_ram, boot_state, gives_of, grant, give, grants_of, hart_at_boot}
+use Rattle.mx_boot.specs.Boot.{limit_of, limited, module_of, owned_pieces, stack_address, unless, with_content}
 use Rattle.mx_boot.specs.Entries.{hart_start, requests, requests_of, start_address}
 use Rattle.mx_boot.specs.Faults.{areas_rows, at_hart, entry_rows, first_fault, gates_rows, hart_rows, image_rows, ram_words, rows}
 use Rattle.mx_boot.specs.Laid.{gate_of}

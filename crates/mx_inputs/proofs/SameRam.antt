@@ -1,14 +1,11 @@
 -- RAM with contents put into it, byte by byte: two of them have the same byte at a place where the contents are the same or pass by it.
-use Rattle.std.proofs.Common.{◌≡◌, ◌≢◌, ◌⊎◌, inl, inr, ℕ, zero, suc, ◌+◌, ◌-◌, ◌<◌, ◌≤◌, List, [], ◌∷◌, ◌++◌, length, get_or, set, fold, slice_get, Some, refl, ap, ◌∙◌, sym, subst, arith}
+use Rattle.std.proofs.Common.{◌≡◌, ◌≢◌, ◌⊎◌, inl, inr, ℕ, zero, suc, ◌+◌, ◌-◌, ◌<◌, ◌≤◌, List, [], ◌∷◌, ◌++◌, length, get_or, set, fold}
+use Rattle.std.proofs.Common.{slice_get, Some, refl, ap, ◌∙◌, sym, subst, arith}
 use Rattle.std.specs.List.{enumerate_from, flat_map}
 use Rattle.std.proofs.lemmas.List.{length-set, get_or-set_other}
 use Rattle.mx_boot.specs.Areas.{Content}
 use Rattle.mx_boot.specs.Boot.{with_content}
-use Rattle.mx_boot.proofs.RamBytes.{put}
-
-length-put : (ram : List ℕ) (k : ℕ) (bytes : List ℕ) → length (put ram k bytes) ≡ length ram
-length-put ram k [] = refl
-length-put ram k (b ∷ bytes) = length-put (set ram k b) (k + 1) bytes ∙ length-set ram k b
+use Rattle.mx_boot.proofs.RamBytes.{put, length-put}
 
 -- bytes that are put elsewhere
 abbrev pub PassesBy : ℕ → ℕ → ℕ → Type 0

@@ -1,5 +1,6 @@
 -- Two runs side by side whose harts meet no border: a hart of some domains sees the same in both, whatever harts of other domains do.
-use Rattle.std.proofs.Common.{List, ◌≡◌, ◌≢◌, ◌⊎◌, inl, inr, ℕ, zero, suc, ◌+◌, ◌-◌, Bool, true, false, ◌==◌, ◌||◌, length, get_or, refl, sym, ◌∙◌, ap, subst, arith, eqb-true}
+use Rattle.std.proofs.Common.{List, ◌≡◌, ◌≢◌, ◌⊎◌, inl, inr, ℕ, zero, suc, ◌+◌, ◌-◌, Bool, true, false, ◌==◌, ◌||◌, length, refl}
+use Rattle.std.proofs.Common.{sym, ◌∙◌, ap, subst, arith, eqb-true}
 use Rattle.std.specs.Prelude.{IsTrue}
 use Rattle.std.proofs.lemmas.Bool.{eqb-false}
 use Rattle.mx_words.specs.declared.perm.Perm.{Perm}
@@ -10,21 +11,23 @@ use Rattle.mx_model.specs.Agreement.{Runs as Going, Ended, Nothing, agree, borde
 use Rattle.mx_model.specs.Gates.{gate_target}
 use Rattle.mx_model.specs.Reads.{Reads, reads}
 use Rattle.mx_model.specs.Run.{Schedule, all_halted, hart_of, is_over, is_stopped, run, turn}
-use Rattle.mx_model.specs.State.{Core, Module, State, hart_at, module_at, no_module}
+use Rattle.mx_model.specs.State.{Module, State, hart_at, module_at}
 use Rattle.mx_model.proofs.KeepLaws.{keeps-turned, size-turned}
 use Rattle.mx_laws.specs.After.{domain_at, standing_at}
 use Rattle.mx_laws.specs.Foreign.{IsKept}
 use Rattle.mx_laws.specs.Twins.{IsRunning}
-use Rattle.mx_laws.proofs.AfterLaws.{agree-after}
+use Rattle.mx_laws.proofs.AfterLaws.{agree-after, module_in}
 use Rattle.mx_laws.proofs.ForeignLaws.{ram-halted}
 use Rattle.mx_laws.proofs.QuietLaws.{end-turned}
 use Rattle.mx_laws.proofs.TurnParts.{IsAlike}
 use Rattle.mx_runs.specs.ForeignRuns.{HasLists}
 use Rattle.mx_runs.proofs.ForeignRunLaws.{lists-run, state-word}
-use Rattle.mx_runs.proofs.ForeignTurns.{kept-ram}
+use Rattle.mx_laws.proofs.ForeignLaws.{kept-ram}
 use Rattle.mx_runs.proofs.RunMoments.{no-more, one-more}
 use Rattle.mx_inputs.specs.Free.{IsFree, MeetsNoBorder}
-use Rattle.mx_inputs.proofs.Calm.{GoesFree, IsCalm, aligned-pc, calm-ended, calm-free, domain-calm, ended-alike, perm-calm, running-of, standing-calm}
+use Rattle.mx_inputs.proofs.Calm.{GoesFree, IsCalm, aligned-pc, calm-ended, calm-free, domain-calm, ended-alike, perm-calm, running-of}
+use Rattle.mx_inputs.proofs.Calm.{standing-calm}
+use Rattle.mx_runs.proofs.TwinRunLaws.{same-hart}
 
 -- no module may write a word that another may read
 abbrev pub AreApart : Reads → Type 0
@@ -49,10 +52,6 @@ pub record AreSides (domain : ℕ → ℕ) (set : ℕ → Type 0) (s t : State) 
   pub apart : AreApart (reads s)
   pub apart_too : AreApart (reads t)
   pub agreement : (g : ℕ) → set (domain g - 1) → agree s t g
-
--- a module and the target of a gate, by the list in which they stand
-abbrev module_in : List Module → ℕ → Module
-module_in modules d = get_or modules (d - 1) no_module
 
 -- a turn that leaves a hart, and the words that it may read, leaves it agreeing
 agree-beside : (s t : State) (h g : ℕ) → IsCalm s h → IsCalm t h → agree s t g →
@@ -165,11 +164,6 @@ module _ (domain : ℕ → ℕ) (set : ℕ → Type 0) (s t : State) (h : ℕ) (
   sides-turn lists lists_too (inr f) =
       sides-calm (calm-free s h a.first.valid f.0) (calm-free t h a.second.valid f.1)
       (λ g i. agree-free f.0 f.1 g i (domain g - 1 == domain h - 1) refl) lists lists_too
-
--- both schedules name the same hart, and both go on
-same-hart : (schedule : Schedule) (c e : Core) → c.turns ≡ e.turns → length c.harts ≡ length e.harts →
-    hart_of schedule c ≡ hart_of schedule e
-same-hart x c e p q = grind arith
 
 same-stop : (schedule : Schedule) (s t : State) → all_halted s.core ≡ all_halted t.core → s.core.turns ≡ t.core.turns →
     is_stopped schedule s ≡ is_stopped schedule t

@@ -9,9 +9,12 @@ ghost use Rattle.mx_boot.specs.Bytes.{AreBytes};
 ghost use Rattle.mx_inputs.specs.Free.{MeetsNoBorder};
 ghost use Rattle.mx_inputs.specs.Same.{AreBoots, HasNoRightWhereTheyDiffer, HasSameInput};
 
-/// Inputs are seen by their modules alone. Two plans that differ in the names of the files of inputs, with the same images and whatever
-/// inputs, boot to states that agree for each hart whose module is given the same in both. So is the module of each domain that has no
-/// right on an area in which they differ. By one schedule, as long as no turn of a running hart in either run meets a border, the states
+/// Inputs are seen by their modules alone. Two plans that differ in the names of the files of inputs, with the same
+/// images and whatever
+/// inputs, boot to states that agree for each hart whose module is given the same in both. So is the module of each
+/// domain that has no
+/// right on an area in which they differ. By one schedule, as long as no turn of a running hart in either run meets a
+/// border, the states
 /// agree for these harts again, whatever the other harts make of their own inputs.
 pub fn inputs_are_unseen()
     ensures boots { (p q : Said) (images left right : List (List ℕ)) (s t : State) (h : ℕ) →

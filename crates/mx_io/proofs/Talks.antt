@@ -63,7 +63,8 @@ told_more s m t a more step rest =
     }
 
 -- over a store that keeps the law of its trait
-pub talks_told : {S : Type 0} (state : S → StoreState) (gives : S → Answer → S → Type 0) → ((s : S) (a : Answer) (t : S) → gives s a t → Tells (state s) a (state t))
+pub talks_told : {S : Type 0} (state : S → StoreState) (gives : S → Answer → S → Type 0)
+    → ((s : S) (a : Answer) (t : S) → gives s a t → Tells (state s) a (state t))
     → (s t : S) (answers : List Answer) → Talks gives s answers t → Told (state s) answers (state t)
 talks_told state gives law s t [] talk = rw talk (told_none (state s))
 talks_told state gives law s t (a ∷ more) talk =
@@ -77,6 +78,7 @@ succeeded (Gave name at room None) h = h (λ f. f)
 succeeded (Gave name at room (Some bytes)) h = tt
 
 -- where the count didn't rise every call succeeded
-pub all_succeeded : (before now : ℕ) → (Rose before now → ⊥) → (answers : List Answer) → Each (λ a. (HasSucceeded a → ⊥) → Rose before now) answers → Each HasSucceeded answers
+pub all_succeeded : (before now : ℕ) → (Rose before now → ⊥) → (answers : List Answer)
+    → Each (λ a. (HasSucceeded a → ⊥) → Rose before now) answers → Each HasSucceeded answers
 all_succeeded before now stays [] e = tt
 all_succeeded before now stays (a ∷ more) e = (succeeded a (λ fails. stays (e.0 fails)), all_succeeded before now stays more e.1)

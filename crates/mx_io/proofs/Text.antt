@@ -1,5 +1,6 @@
 -- Texts put on a sink part by part: what holds between two parts, and what follows at each exit.
-use Rattle.std.proofs.Common.{◌≡◌, ℕ, ◌+◌, ◌<◌, ◌≤◌, List, [], ◌++◌, length, take, drop, refl, sym, ap, ◌∙◌, subst, inl, inr, arith, append_assoc, length-append, Option, None, Some, Result, Ok, Err, flat_map, get_or, add-one}
+use Rattle.std.proofs.Common.{◌≡◌, ℕ, ◌+◌, ◌<◌, ◌≤◌, List, [], ◌++◌, length, take, drop, refl, sym, ap, ◌∙◌, subst, inl, inr, arith}
+use Rattle.std.proofs.Common.{append_assoc, length-append, Option, None, Some, Result, Ok, Err, flat_map, get_or, add-one}
 use Rattle.std.proofs.lemmas.List.{take-append-drop, append-nil, length-drop, take-append-le}
 use Rattle.std.proofs.Math.Seq.{drop-cons, take-append_seam, take-append-add}
 use Rattle.std.specs.Io.KnownBytes.{Appends}
@@ -66,18 +67,21 @@ prefix_of_part done part rest n h = take-append-add done (part ++ rest) n ∙ ap
 
 module _ {A E : Type 0} {before now after : SinkState} {text : List ℕ} where
   -- one more part was put, and another part is to come
-  pub left_next : {part rest : List ℕ} {a : A} → Left before now text (part ++ rest) → Puts {E = E} now after part (Ok a) → Left before after text rest
+  pub left_next : {part rest : List ℕ} {a : A} → Left before now text (part ++ rest) → Puts {E = E} now after part (Ok a)
+      → Left before after text rest
   left_next {part} {rest} l p =
       record {
         kept = p.kept ∙ l.kept;
         done = l.done ++ part;
         parts = l.parts ∙ sym (append_assoc l.done part rest);
         written = appends_both l.written p.whole;
-        room = λ fits. let r = l.room fits in let n = length-append part rest in let s = p.sure (omega (arith, r, n)) in omega (arith, r, s.1, n);
+        room = λ fits. let r = l.room fits in let n = length-append part rest in let s = p.sure (omega (arith, r, n)) in
+            omega (arith, r, s.1, n);
       }
 
   -- putting a part failed
-  pub left_stop : {part : List ℕ} (rest : List ℕ) {e : E} → Left before now text (part ++ rest) → Puts {A = A} now after part (Err e) → Puts {A = A} before after text (Err e)
+  pub left_stop : {part : List ℕ} (rest : List ℕ) {e : E} → Left before now text (part ++ rest) → Puts {A = A} now after part (Err e)
+      → Puts {A = A} before after text (Err e)
   left_stop {part} rest {e} l p =
       let f = p.front in
       record {
@@ -87,14 +91,16 @@ module _ {A E : Type 0} {before now after : SinkState} {text : List ℕ} where
         front = (
           length l.done + f.0,
           omega (arith, f.1, ap length l.parts, length-append l.done (part ++ rest), length-append part rest),
-          appends_same (sym (ap (λ bs. take (length l.done + f.0) bs) l.parts ∙ prefix_of_part l.done part rest f.0 f.1)) (appends_both l.written f.2),
+          appends_same (sym (ap (λ bs. take (length l.done + f.0) bs) l.parts ∙ prefix_of_part l.done part rest f.0 f.1))
+              (appends_both l.written f.2),
         );
         failed = Rose-earlier before.faults now.faults after.faults (omega (arith, l.kept)) p.failed;
         sure = λ fits. let r = l.room fits in let n = length-append part rest in absurd (not_ok A e (p.sure (omega (arith, r, n))).0);
       }
 
   -- the next write failed
-  pub left_write_stop : {rest : List ℕ} {e : E} → Left before now text rest → 0 < length rest → Writes now after rest (Err e) → Puts {A = A} before after text (Err e)
+  pub left_write_stop : {rest : List ℕ} {e : E} → Left before now text rest → 0 < length rest → Writes now after rest (Err e)
+      → Puts {A = A} before after text (Err e)
   left_write_stop {rest} {e} l more w =
       record {
         later = omega (arith, l.kept, w.later);
@@ -103,14 +109,16 @@ module _ {A E : Type 0} {before now after : SinkState} {text : List ℕ} where
         front = (
           length l.done,
           omega (arith, more, ap length l.parts, length-append l.done rest),
-          appends_same (sym (ap (λ bs. take (length l.done) bs) l.parts ∙ take-append_seam l.done rest)) (appends_then_nothing l.written w.nothing),
+          appends_same (sym (ap (λ bs. take (length l.done) bs) l.parts ∙ take-append_seam l.done rest))
+              (appends_then_nothing l.written w.nothing),
         );
         failed = Rose-earlier before.faults now.faults after.faults (omega (arith, l.kept)) w.failed;
         sure = λ fits. let r = l.room fits in absurd (not_ok ℕ e (w.sure more (omega (arith, r))).0);
       }
 
 -- every part was put
-pub left_none : {A E : Type 0} {before now : SinkState} {text : List ℕ} {a : A} → Left before now text [] → Puts {E = E} before now text (Ok a)
+pub left_none : {A E : Type 0} {before now : SinkState} {text : List ℕ} {a : A} → Left before now text []
+    → Puts {E = E} before now text (Ok a)
 left_none {before = before} {text = text} l =
     record {
       later = omega (arith, l.kept);
@@ -122,21 +130,25 @@ left_none {before = before} {text = text} l =
     }
 
 -- the last part was put, or putting it failed
-pub left_end : {A E : Type 0} {before now after : SinkState} {text part : List ℕ} {result : Result A E} → Left before now text part → Puts now after part result → Puts before after text result
+pub left_end : {A E : Type 0} {before now after : SinkState} {text part : List ℕ} {result : Result A E} → Left before now text part
+    → Puts now after part result → Puts before after text result
 left_end {part = part} {result = Ok a} l p = left_none (left_next (rw append-nil l) p)
 left_end {part = part} {result = Err e} l p = left_stop [] (rw append-nil l) p
 
 -- a write took some bytes of the rest
-pub left_write : {E : Type 0} {before now after : SinkState} {text rest : List ℕ} {k : ℕ} → Left before now text rest → 0 < length rest → Writes {E = E} now after rest (Ok k) → Left before after text (drop k rest)
+pub left_write : {E : Type 0} {before now after : SinkState} {text rest : List ℕ} {k : ℕ} → Left before now text rest → 0 < length rest
+    → Writes {E = E} now after rest (Ok k) → Left before after text (drop k rest)
 left_write {before = before} {rest = rest} {k = k} l more w =
     record {
       kept = w.kept ∙ l.kept;
       done = l.done ++ take k rest;
       parts = l.parts ∙ ap (λ bs. l.done ++ bs) (sym (take-append-drop k rest)) ∙ sym (append_assoc l.done (take k rest) (drop k rest));
       written = appends_both l.written w.taken;
-      room = λ fits. let r = l.room fits in let s = w.sure more (omega (arith, r)) in let n = length-drop k rest in let b = w.bound in omega (arith, r, s.1, n, b);
+      room = λ fits. let r = l.room fits in let s = w.sure more (omega (arith, r)) in let n = length-drop k rest in let b = w.bound in
+          omega (arith, r, s.1, n, b);
     }
 
 -- the texts of the items from place i on: that of item i, then those of the items after it
-pub flat_map-drop : {X : Type 0} (f : X → List ℕ) (xs : List X) (i : ℕ) (d : X) → i < length xs → flat_map f (drop i xs) ≡ f (get_or xs i d) ++ flat_map f (drop (i + 1) xs)
+pub flat_map-drop : {X : Type 0} (f : X → List ℕ) (xs : List X) (i : ℕ) (d : X) → i < length xs
+    → flat_map f (drop i xs) ≡ f (get_or xs i d) ++ flat_map f (drop (i + 1) xs)
 flat_map-drop f xs i d h = rw add-one (ap (flat_map f) (drop-cons xs i d h))

@@ -1,6 +1,7 @@
 -- What a store answers to its calls, and what a step of a store means.
 -- The rules: docs/COMMANDS.md, "What is judged first".
-use Rattle.std.specs.Prelude.{◌≡◌, ℕ, ◌^◌, ◌<◌, ◌≤◌, ◌↔◌, IsTrue, List, [], ◌∷◌, length, take, drop, Option, Some, None, IfSome, option_map, ⊤}
+use Rattle.std.specs.Prelude.{◌≡◌, ℕ, ◌^◌, ◌<◌, ◌≤◌, ◌↔◌, IsTrue, List, [], ◌∷◌, length, take, drop, Option, Some, None, IfSome, option_map}
+use Rattle.std.specs.Prelude.{⊤}
 use Rattle.std.specs.FinMap.{get}
 use Rattle.mx_io.specs.Count.{Rose}
 use Rattle.mx_io.specs.Store.{FileMap, StoreState, file_bytes}
@@ -30,7 +31,8 @@ IsOf files (Sized name (Some size)) = size ≡ option_map length (get files name
 IsOf files (Gave name at room None) = ⊤
 IsOf files (Gave name at room (Some bytes)) = IsPart (file_bytes files name) at room bytes
 
--- a step of a store: its files stay, its count never falls, and stays where the call succeeded, the call failed only where the count rose and success was not
+-- a step of a store: its files stay, its count never falls, and stays where the call succeeded, the call failed only where the count rose
+-- and success was not
 -- sure, and the answer is that of the files where they are told
 pub record Tells (before : StoreState) (answer : Answer) (now : StoreState) : Type 0 where
   pub files : now.told ≡ before.told

@@ -1,5 +1,6 @@
 -- The stores and sinks over what the system gives, which tell what that tells.
-use Rattle.std.specs.Prelude.{◌≡◌, ℕ, ◌+◌, ◌<◌, ◌≤◌, Bool, IsTrue, List, length, Option, None, Some, IsSome, option_map, Result, IsOk, IfOk, ⊤}
+use Rattle.std.specs.Prelude.{◌≡◌, ℕ, ◌+◌, ◌<◌, ◌≤◌, Bool, IsTrue, List, length, Option, None, Some, IsSome, option_map, Result, IsOk, IfOk}
+use Rattle.std.specs.Prelude.{⊤}
 use Rattle.std.specs.FinMap.{get}
 use Rattle.mx_io.specs.Store.{FileMap, StoreState}
 use Rattle.mx_io.specs.Sink.{SinkState}

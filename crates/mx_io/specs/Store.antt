@@ -1,6 +1,7 @@
 -- What a store says of itself, and what its calls answer.
 -- The rules: docs/PROMISES.md, "The outside".
-use Rattle.std.specs.Prelude.{◌≡◌, ℕ, ◌^◌, ◌<◌, ◌≤◌, Bool, IsTrue, List, [], ◌++◌, length, take, drop, min, ◌-◌, Option, Result, IsOk, OnOk, OnErr, unwrap_or}
+use Rattle.std.specs.Prelude.{◌≡◌, ℕ, ◌^◌, ◌<◌, ◌≤◌, Bool, IsTrue, List, [], ◌++◌, length, take, drop, min, ◌-◌, Option, Result, IsOk, OnOk}
+use Rattle.std.specs.Prelude.{OnErr, unwrap_or}
 use Rattle.std.specs.Ordering.{nat_cmp}
 use Rattle.std.specs.Cmp.Lexicographic.{slice_cmp}
 use Rattle.std.specs.FinMap.{FinMap, get}
@@ -20,7 +21,8 @@ pub record StoreState : Type 0 where
   pub faults : ℕ
   pub sure : Bool
 
--- any call of a store: its files stay, its count never falls and stays where it succeeds, and it fails only where the count rose and success was not sure
+-- any call of a store: its files stay, its count never falls and stays where it succeeds, and it fails only where the count rose and
+-- success was not sure
 pub record Asks {A E : Type 0} (before now : StoreState) (result : Result A E) : Type 0 where
   pub files : now.told ≡ before.told
   pub later : before.faults ≤ now.faults

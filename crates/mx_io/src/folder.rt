@@ -1,5 +1,6 @@
 //! The files of a folder.
-ghost use Rattle.std.specs.Prelude.{◌≡◌, ◌≢◌, ◌≤◌, ℕ, Bool, false, IsTrue, List, Option, Some, None, IfSome, IfOk, IsOk, length, take, option_map};
+ghost use Rattle.std.specs.Prelude.{◌≡◌, ◌≢◌, ◌≤◌, ℕ, Bool, false, IsTrue, List, Option, Some, None, IfSome, IfOk};
+ghost use Rattle.std.specs.Prelude.{IsOk, length, take, option_map};
 ghost use Rattle.std.specs.FinMap.{get};
 ghost use Rattle.mx_io.specs.Store.{FileMap, file_bytes};
 ghost use Rattle.mx_io.specs.Answer.{IsPart, tells_by};

@@ -2,7 +2,8 @@
 ghost use Rattle.std.specs.Prelude.{◌≡◌, IfSome};
 ghost use Rattle.mx_isa.specs.Table.{decoded, encoded, cond_of, load_of, store_of, imm_op_of, reg_op_of, imm_of_op};
 ghost use Rattle.mx_isa.specs.Ranges.{IsValid};
-ghost use Rattle.mx_isa.specs.Fields.{rd_of, f3_of, rs1_of, rs2_of, f7_of, imm_i, imm_s, imm_b, imm_u, imm_j, fence_fields};
+ghost use Rattle.mx_isa.specs.Fields.{rd_of, f3_of, rs1_of, rs2_of, f7_of, imm_i, imm_s, imm_b, imm_u, imm_j};
+ghost use Rattle.mx_isa.specs.Fields.{fence_fields};
 
 use crate::inst::{Cond, ImmOp, Inst, LoadWidth, RegOp, StoreWidth};
 

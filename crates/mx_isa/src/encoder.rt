@@ -1,6 +1,7 @@
 //! From an instruction to its word (RISC-V unprivileged manual 20191213, chapter 24).
 ghost use Rattle.std.specs.Prelude.{◌≡◌, ◌<◌, Some, unwrap_or};
-ghost use Rattle.mx_isa.specs.Table.{decoded, encoded, word_r, word_i, word_s, word_b, word_u, word_j, word_op_imm, cond_f3, load_f3, store_f3, imm_op_f3, imm_op_f7, reg_op_f3, reg_op_f7};
+ghost use Rattle.mx_isa.specs.Table.{decoded, encoded, word_r, word_i, word_s, word_b, word_u, word_j, word_op_imm};
+ghost use Rattle.mx_isa.specs.Table.{cond_f3, load_f3, store_f3, imm_op_f3, imm_op_f7, reg_op_f3, reg_op_f7};
 ghost use Rattle.mx_isa.specs.Ranges.{IsValid, IsExtended, IsOffset, IsUpper, IsOperand};
 
 use crate::inst::{Cond, ImmOp, Inst, LoadWidth, RegOp, StoreWidth};

@@ -1,5 +1,6 @@
 -- Twins agree after a turn without a border, for each hart for which they agreed before.
-use Rattle.std.proofs.Common.{◌≡◌, ℕ, zero, suc, ◌+◌, ◌-◌, ◌*◌, ◌/◌, ◌%◌, Bool, true, false, ◌==◌, nat_lt, List, [], ◌∷◌, length, get_or, set, refl, sym, ◌∙◌, ap, subst, arith, eqb-true, if◌then◌else◌, Option, None}
+use Rattle.std.proofs.Common.{◌≡◌, ℕ, zero, suc, ◌+◌, ◌-◌, ◌*◌, ◌/◌, ◌%◌, Bool, true, false, ◌==◌, nat_lt, List, [], ◌∷◌, length, get_or}
+use Rattle.std.proofs.Common.{set, refl, sym, ◌∙◌, ap, subst, arith, eqb-true, if◌then◌else◌, Option, None}
 use Rattle.std.proofs.lemmas.Bool.{eqb-false}
 use Rattle.std.proofs.lemmas.List.{length-set}
 use Rattle.std.specs.Prelude.{IsTrue}
@@ -23,7 +24,8 @@ use Rattle.mx_laws.proofs.TurnParts.{IsAlike}
 use Rattle.mx_laws.proofs.TwinLaws.{IsLeftFree, action_in, store_of, hart_then, pc_of, regs_of, left-twin, left-other}
 
 -- a byte that is the same in two lists of one length is the same after one store in both
-set-same : (xs ys : List ℕ) (k v j : ℕ) → length xs ≡ length ys → get_or xs j 0 ≡ get_or ys j 0 → get_or (set xs k v) j 0 ≡ get_or (set ys k v) j 0
+set-same : (xs ys : List ℕ) (k v j : ℕ) → length xs ≡ length ys → get_or xs j 0 ≡ get_or ys j 0
+    → get_or (set xs k v) j 0 ≡ get_or (set ys k v) j 0
 set-same [] [] k v j l e = e
 set-same [] (y ∷ ys) k v j l e = absurd (let q : ⊥ = omega (arith, l) in q)
 set-same (x ∷ xs) [] k v j l e = absurd (let q : ⊥ = omega (arith, l) in q)
@@ -70,7 +72,7 @@ harts-after : (x y : Hart) (a : Action) → SameHarts x y → SameHarts (hart_th
 harts-after x y a s = record { standing = refl; pc = pc-after x y a s.pc; regs = regs-after x y a s.regs; domain = s.domain }
 
 -- a module, and the target of a gate, by the list in which they stand
-abbrev module_in : List Module → ℕ → Module
+abbrev pub module_in : List Module → ℕ → Module
 module_in modules d = get_or modules (d - 1) no_module
 
 -- hart g after a turn of hart h in both
@@ -103,7 +105,8 @@ module _ (r : Reads) (c : Core) (q : Reads) (e : Core) (h g : ℕ) (t : AreFreeT
   same-harts true n =
       let same : g ≡ h = eqb-true g h n in
       subst (λ (i : ℕ). SameHarts (hart_at first i) (hart_at second i)) (sym same)
-      (subst (λ (y : Hart). SameHarts (hart_at first h) y) (sym right.own) (subst (λ (x : Hart). SameHarts x (hart_then (hart_at e h) action)) (sym left.own)
+      (subst (λ (y : Hart). SameHarts (hart_at first h) y) (sym right.own)
+      (subst (λ (x : Hart). SameHarts x (hart_then (hart_at e h) action)) (sym left.own)
       (harts-after (hart_at c h) (hart_at e h) action (harts-agree r c q e h t.twins.agreement))))
   same-harts false n =
       harts-alike (hart_at c g) (hart_at e g) (hart_at first g) (hart_at second g) (harts-agree r c q e g a)
@@ -116,7 +119,8 @@ module _ (r : Reads) (c : Core) (q : Reads) (e : Core) (h g : ℕ) (t : AreFreeT
       ∙ sym (ap (λ (xs : List ℕ). get_or xs j 0) right.ram)
 
   -- agreement afterwards, where the permissions stay
-  pub agrees-after : (u v : Reads) → ((d i : ℕ) → u.perm d i ≡ r.perm d i) → ((d i : ℕ) → v.perm d i ≡ q.perm d i) → Agrees u first v second g
+  pub agrees-after : (u v : Reads) → ((d i : ℕ) → u.perm d i ≡ r.perm d i) → ((d i : ℕ) → v.perm d i ≡ q.perm d i)
+      → Agrees u first v second g
   agrees-after u v m n =
       let d = (hart_at c g).domain in
       let s = same-harts (g == h) refl in
@@ -128,15 +132,19 @@ module _ (r : Reads) (c : Core) (q : Reads) (e : Core) (h g : ℕ) (t : AreFreeT
         same_domain = s.domain;
         same_map = λ i. subst (λ (k : ℕ). u.perm k i ≡ v.perm k i) stays (m d i ∙ a.same_map i ∙ sym (n d i));
         same_death = subst (λ (k : ℕ). (module_at first k).dead ≡ (module_at second k).dead) stays
-            (ap (λ (ms : List Module). (module_in ms d).dead) left.modules ∙ a.same_death ∙ sym (ap (λ (ms : List Module). (module_in ms d).dead) right.modules));
+            (ap (λ (ms : List Module). (module_in ms d).dead) left.modules ∙ a.same_death
+            ∙ sym (ap (λ (ms : List Module). (module_in ms d).dead) right.modules));
         same_gates = λ i. subst (λ (k : ℕ). target_at first k i ≡ target_at second k i) stays
-            (ap (λ (gs : List Gate). gate_target gs d i) left.gates ∙ a.same_gates i ∙ sym (ap (λ (gs : List Gate). gate_target gs d i) right.gates));
+            (ap (λ (gs : List Gate). gate_target gs d i) left.gates ∙ a.same_gates i
+            ∙ sym (ap (λ (gs : List Gate). gate_target gs d i) right.gates));
         same_bytes = λ i p k l. same-byte (4 * i + k)
-            (a.same_bytes i (subst (λ (x : Perm). IsTrue (allows x A.Read)) (m d i) (subst (λ (k : ℕ). IsTrue (allows (u.perm k i) A.Read)) (sym stays) p)) k l);
+            (a.same_bytes i (subst (λ (x : Perm). IsTrue (allows x A.Read)) (m d i)
+            (subst (λ (k : ℕ). IsTrue (allows (u.perm k i) A.Read)) (sym stays) p)) k l);
       }
 
 -- a turn that changes no right leaves what is answered of permissions
-reads-after : (s : State) (m : Made) → m.core.size ≡ s.core.size → m.change ≡ None → (d i : ℕ) → (reads (after s m)).perm d i ≡ (reads s).perm d i
+reads-after : (s : State) (m : Made) → m.core.size ≡ s.core.size → m.change ≡ None → (d i : ℕ)
+    → (reads (after s m)).perm d i ≡ (reads s).perm d i
 reads-after s m n k d i =
     ap (λ (size : ℕ). if nat_lt i size then at (grants_of (grants_after s.grants m.change) d) i else P.None) n
     ∙ ap (λ (o : Option Change). if nat_lt i s.core.size then at (grants_of (grants_after s.grants o) d) i else P.None) k
@@ -156,5 +164,7 @@ agree-after s t h g f a =
 pub flat-agree-after : (s t : Flat) (h g : ℕ) → flat_free_twins s t h → flat_agree s t g → flat_agree (flat_turn s h) (flat_turn t h) g
 flat-agree-after s t h g f a =
     agrees-after (flat_reads s) s.core (flat_reads t) t.core h g f a (flat_reads (flat_turn s h)) (flat_reads (flat_turn t h))
-    (flat-reads-after s (flat_made s h) (size-turned (flat_reads s) s.core h) (left-twin (flat_reads s) s.core (flat_reads t) t.core h f).change)
-    (flat-reads-after t (flat_made t h) (size-turned (flat_reads t) t.core h) (left-other (flat_reads s) s.core (flat_reads t) t.core h f).change)
+    (flat-reads-after s (flat_made s h) (size-turned (flat_reads s) s.core h)
+    (left-twin (flat_reads s) s.core (flat_reads t) t.core h f).change)
+    (flat-reads-after t (flat_made t h) (size-turned (flat_reads t) t.core h)
+    (left-other (flat_reads s) s.core (flat_reads t) t.core h f).change)

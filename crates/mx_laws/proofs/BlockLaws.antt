@@ -7,7 +7,8 @@ use Rattle.mx_words.specs.FirstFit.{Area, AreApart, block_words}
 use Rattle.mx_words.proofs.AreaLaws.{apart_ordered}
 
 -- a live block lies in its heap area
-pub block-in : (low high first : ℕ) (bs : List Area) → AreApart low high bs → IfSome (block_words bs first) (λ n. (low ≤ first) × (first + n ≤ high))
+pub block-in : (low high first : ℕ) (bs : List Area) → AreApart low high bs
+    → IfSome (block_words bs first) (λ n. (low ≤ first) × (first + n ≤ high))
 block-in low high first [] p = tt
 block-in low high first (b ∷ bs) p = elim (b.first == first) as
     (λ t. (b.first == first) ≡ t → IfSome (option_map (λ (x : Area). x.count) (cond t (Some b) (find (λ (x : Area). x.first == first) bs)))
@@ -17,6 +18,7 @@ block-in low high first (b ∷ bs) p = elim (b.first == first) as
       | false ↦ λ t. lower (block_words bs first) (block-in (b.first + b.count) high first bs p.2)
     ] refl
   where
-    lower : (o : Option ℕ) → IfSome o (λ n. (b.first + b.count ≤ first) × (first + n ≤ high)) → IfSome o (λ n. (low ≤ first) × (first + n ≤ high))
+    lower : (o : Option ℕ) → IfSome o (λ n. (b.first + b.count ≤ first) × (first + n ≤ high))
+        → IfSome o (λ n. (low ≤ first) × (first + n ≤ high))
     lower None q = tt
     lower (Some n) q = let l = p.0 in let m = q.0 in (omega (arith, l, m), q.1)

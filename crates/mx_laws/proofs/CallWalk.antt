@@ -1,5 +1,6 @@
 -- What a served call leaves of a state: one walk over the calls, with a predicate on the state after.
-use Rattle.std.proofs.Common.{◌≡◌, ℕ, ◌*◌, true, false, not, cond, ◌==◌, nat_le, List, [], ◌∷◌, length, refl, Option, Some, None, unwrap_or, is_none}
+use Rattle.std.proofs.Common.{◌≡◌, ℕ, ◌*◌, true, false, not, cond, ◌==◌, nat_le, List, [], ◌∷◌, length, refl, Option, Some, None, unwrap_or}
+use Rattle.std.proofs.Common.{is_none}
 use Rattle.std.specs.List.{range_with_len}
 use Rattle.std.proofs.lemmas.Bool.{not-false}
 use Rattle.mx_words.specs.declared.perm.Access.TheVariants as A
@@ -13,20 +14,26 @@ use Rattle.mx_model.specs.declared.values.Call.{Call}
 use Rattle.mx_model.specs.declared.values.Gate.{Gate}
 use Rattle.mx_model.specs.Checks.{Look, arg, call_range, drops, looked, looked_all}
 use Rattle.mx_model.specs.Reads.{Reads}
-use Rattle.mx_model.specs.Serve.{Served, Service, Exit, Write, Grant, RevokeAll, Transfer, Alloc, Free, AddGate, RemoveGate, AddReturnGate, Query, Self, Exchange, Unknown, judged, answers, serve, served_by, service, ended, write_from, written_out, write_looks, exchange_from, exchanged, look_of, arg_word, alloc_place, alloc_change, allocated, alloc_from, serve_alloc}
+use Rattle.mx_model.specs.Serve.{Served, Service, Exit, Write, Grant, RevokeAll, Transfer, Alloc, Free, AddGate, RemoveGate, AddReturnGate}
+use Rattle.mx_model.specs.Serve.{Query, Self, Exchange, Unknown, judged, answers, serve, served_by, service, ended, write_from, written_out}
+use Rattle.mx_model.specs.Serve.{write_looks, exchange_from, exchanged, look_of, arg_word, alloc_place, alloc_change, allocated, alloc_from}
+use Rattle.mx_model.specs.Serve.{serve_alloc}
 use Rattle.mx_model.specs.State.{Core, Module, module_at}
 use Rattle.mx_model.proofs.ListLaws.{found-passes}
 use Rattle.mx_model.proofs.TestLaws.{first-passes, found-some}
 
--- what is to be shown of the states after a call: of the state before, whatever the caches are; with other modules or gates; of an exchange; and of
+-- what is to be shown of the states after a call: of the state before, whatever the caches are; with other modules or gates; of an
+-- exchange; and of
 -- an alloc that finds room
 pub record CallLeaves (r : Reads) (c : Core) (call : Call) (Q : Core → Type 0) : Type 0 where
   pub caches : (e : Core) (caches : List Cache) → Q e → Q (record e { caches = caches })
   pub none : Q c
   pub modules : (modules : List Module) → Q (record c { modules = modules })
   pub gates : (gates : List Gate) → Q (record c { gates = gates })
-  pub exchange : allows (r.perm call.domain (arg_word call)) A.Write ≡ true → Q (record c { ram = put_at c.ram (4 * arg_word call) 4 (arg call 1) })
-  pub alloc : service call.number ≡ Alloc → (first : ℕ) → has_room (module_at c call.domain).heap (module_at c call.domain).blocks (arg call 0) first ≡ true →
+  pub exchange : allows (r.perm call.domain (arg_word call)) A.Write ≡ true
+      → Q (record c { ram = put_at c.ram (4 * arg_word call) 4 (arg call 1) })
+  pub alloc : service call.number ≡ Alloc → (first : ℕ) → has_room (module_at c call.domain).heap (module_at c call.domain).blocks
+      (arg call 0) first ≡ true →
       Q (allocated c call first).core
 
 module _ (r : Reads) (c : Core) (call : Call) (Q : Core → Type 0) (k : CallLeaves r c call Q) where
@@ -39,7 +46,8 @@ module _ (r : Reads) (c : Core) (call : Call) (Q : Core → Type 0) (k : CallLea
   looked-leaf h (l ∷ ls) e p = looked-leaf h ls (looked r h e l) (k.caches e _ p)
 
   -- looks before RAM is changed
-  looked-ram : (h : ℕ) (looks : List Look) (e : Core) (ram : List ℕ) → Q (record e { ram = ram }) → Q (record (looked_all r h looks e) { ram = ram })
+  looked-ram : (h : ℕ) (looks : List Look) (e : Core) (ram : List ℕ) → Q (record e { ram = ram })
+      → Q (record (looked_all r h looks e) { ram = ram })
   looked-ram h [] e ram p = p
   looked-ram h (l ∷ ls) e ram p = looked-ram h ls (looked r h e l) ram (k.caches (record e { ram = ram }) _ p)
 
@@ -102,10 +110,11 @@ module _ (r : Reads) (c : Core) (call : Call) (Q : Core → Type 0) (k : CallLea
   served-leaf Unknown e = k.none
 
   ended-leaf : (s : Served) → Q s.core → Q (ended c call s).core
-  ended-leaf s p = elim (is_announced call.number) as (λ b. Q (cond b (record s { core = drops call.hart (call_range c call) s.core }) s).core) [
-    | true ↦ k.caches s.core _ p
-    | false ↦ p
-  ]
+  ended-leaf s p = elim (is_announced call.number) as (λ b. Q
+      (cond b (record s { core = drops call.hart (call_range c call) s.core }) s).core) [
+        | true ↦ k.caches s.core _ p
+        | false ↦ p
+      ]
 
   -- the walk
   pub served-walk : Q (serve r c call).core

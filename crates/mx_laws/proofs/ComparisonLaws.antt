@@ -1,5 +1,6 @@
 -- The test of agreement is true exactly where two states agree.
-use Rattle.std.proofs.Common.{◌≡◌, ℕ, zero, suc, ◌+◌, ◌-◌, ◌*◌, ◌<◌, ◌≤◌, Bool, true, false, not, ◌==◌, ◌||◌, nat_lt, nat_eq, List, [], ◌∷◌, ◌++◌, length, if◌then◌else◌, refl, sym, ◌∙◌, ap, subst, arith, lit<, eq-eqb, eqb-true, Option, Some, None}
+use Rattle.std.proofs.Common.{◌≡◌, ℕ, zero, suc, ◌+◌, ◌-◌, ◌*◌, ◌<◌, ◌≤◌, Bool, true, false, not, ◌==◌, ◌||◌, nat_lt, nat_eq, List, [], ◌∷◌}
+use Rattle.std.proofs.Common.{◌++◌, length, if◌then◌else◌, refl, sym, ◌∙◌, ap, subst, arith, lit<, eq-eqb, eqb-true, Option, Some, None}
 use Rattle.std.specs.Prelude.{IfSome, IsTrue, option_map, slice_index}
 use Rattle.std.specs.Bool.{Decides}
 use Rattle.std.specs.Cmp.Lexicographic.{pointwise_decides}
@@ -28,7 +29,7 @@ use Rattle.mx_model.proofs.ListLaws.{all-at, all-find, found-passes}
 use Rattle.mx_laws.specs.Comparison.{AreFit, IsBounded, agrees, same_flag, same_if_read, same_right, same_standing, same_target, same_word}
 
 -- tests on standings, flags, permissions and targets
-decides-standing : (a b : Standing) → Decides (same_standing a b) (a ≡ b)
+pub decides-standing : (a b : Standing) → Decides (same_standing a b) (a ≡ b)
 decides-standing Runs Runs = (λ e. refl, λ p. refl)
 decides-standing Runs Waits = (λ e. absurd (let q : ⊥ = cc in q), λ p. absurd (let q : ⊥ = cc in q))
 decides-standing Runs Ended = (λ e. absurd (let q : ⊥ = cc in q), λ p. absurd (let q : ⊥ = cc in q))
@@ -39,20 +40,21 @@ decides-standing Ended Runs = (λ e. absurd (let q : ⊥ = cc in q), λ p. absur
 decides-standing Ended Waits = (λ e. absurd (let q : ⊥ = cc in q), λ p. absurd (let q : ⊥ = cc in q))
 decides-standing Ended Ended = (λ e. refl, λ p. refl)
 
-decides-flag : (a b : Bool) → Decides (same_flag a b) (a ≡ b)
+pub decides-flag : (a b : Bool) → Decides (same_flag a b) (a ≡ b)
 decides-flag true true = (λ e. refl, λ p. refl)
 decides-flag true false = (λ e. sym e, λ p. sym p)
 decides-flag false true = (λ e. e, λ p. p)
 decides-flag false false = (λ e. refl, λ p. refl)
 
-decides-right : (p q : Perm) → Decides (same p q) (p ≡ q)
+pub decides-right : (p q : Perm) → Decides (same p q) (p ≡ q)
 decides-right p q = (same_eq p q, λ e. eq-eqb (number p) (number q) (ap number e))
 
-decides-target : (o p : Option ℕ) → Decides (option_eq nat_eq o p) (o ≡ p)
+pub decides-target : (o p : Option ℕ) → Decides (option_eq nat_eq o p) (o ≡ p)
 decides-target None None = (λ e. refl, λ p. refl)
 decides-target None (Some y) = (λ e. absurd (let q : ⊥ = cc in q), λ p. absurd (let q : ⊥ = cc in q))
 decides-target (Some x) None = (λ e. absurd (let q : ⊥ = cc in q), λ p. absurd (let q : ⊥ = cc in q))
-decides-target (Some x) (Some y) = Decides-like (nat_eq x y) (λ e. ap (λ (n : ℕ). Some n) e) (λ e. let q : x ≡ y = cc in q) (Decides-eqb x y)
+decides-target (Some x) (Some y) = Decides-like (nat_eq x y) (λ e. ap (λ (n : ℕ). Some n) e) (λ e. let q : x ≡ y = cc in q)
+    (Decides-eqb x y)
 
 -- a test of all elements
 all-from : (p : Gate → Bool) (xs : List Gate) → ((x : Gate) → p x ≡ true) → list_all p xs ≡ true
@@ -71,7 +73,8 @@ decides-words p size W d out = (
 )
 
 -- four tests, and a test that is asked where another holds
-decides-four : (p : ℕ → Bool) (W : ℕ → Type 0) → ((k : ℕ) → Decides (p k) (W k)) → Decides (list_all p (0 ∷ 1 ∷ 2 ∷ 3 ∷ [])) ((k : ℕ) → k < 4 → W k)
+pub decides-four : (p : ℕ → Bool) (W : ℕ → Type 0) → ((k : ℕ) → Decides (p k) (W k))
+    → Decides (list_all p (0 ∷ 1 ∷ 2 ∷ 3 ∷ [])) ((k : ℕ) → k < 4 → W k)
 decides-four p W d = (
   each,
   λ f.
@@ -86,15 +89,16 @@ decides-four p W d = (
     each e (suc (suc (suc zero))) l = (d 3).0 (and_parts (p 3) _ (and_parts (p 2) _ (and_parts (p 1) _ (and_parts (p 0) _ e).1).1).1).0
     each e (suc (suc (suc (suc k)))) l = absurd (let q : ⊥ = omega (arith, l) in q)
 
-decides-where : (b x : Bool) (W : Type 0) → Decides x W → Decides (not b || x) (IsTrue b → W)
+pub decides-where : (b x : Bool) (W : Type 0) → Decides x W → Decides (not b || x) (IsTrue b → W)
 decides-where true x W d = (λ e p. d.0 e, λ f. d.1 (f refl))
 decides-where false x W d = (λ e p. absurd (let q : ⊥ = cc in q), λ f. refl)
 
 -- the bytes of a word that a domain may read
-abbrev SameBytes : Core → Core → ℕ → Type 0
+abbrev pub SameBytes : Core → Core → ℕ → Type 0
 SameBytes c e word = (k : ℕ) → k < 4 → slice_index c.ram (4 * word + k) ≡ slice_index e.ram (4 * word + k)
 
-decides-bytes : (r : Reads) (c e : Core) (d word : ℕ) → Decides (same_if_read r c e d word) (IsTrue (allows (r.perm d word) A.Read) → SameBytes c e word)
+pub decides-bytes : (r : Reads) (c e : Core) (d word : ℕ) → Decides (same_if_read r c e d word) (IsTrue (allows (r.perm d word) A.Read)
+    → SameBytes c e word)
 decides-bytes r c e d word = decides-where (allows (r.perm d word) A.Read) (same_word c e word) (SameBytes c e word)
     (decides-four (λ k. slice_index c.ram (4 * word + k) == slice_index e.ram (4 * word + k))
     (λ k. slice_index c.ram (4 * word + k) ≡ slice_index e.ram (4 * word + k))
@@ -114,7 +118,8 @@ module _ (c e : Core) (d : ℕ) where
       subst (λ (w : ℕ). target_at c d w ≡ target_at e d w) n ((decides-target (target_at c d g.word) (target_at e d g.word)).0 t)
 
   target-found : (i : ℕ) (o p : Option Gate) → gate_at c.gates d i ≡ o → gate_at e.gates d i ≡ p →
-      IfSome o (λ g. same_at g ≡ true) → IfSome p (λ g. same_at g ≡ true) → IfSome o (λ g. is_at d i g ≡ true) → IfSome p (λ g. is_at d i g ≡ true) →
+      IfSome o (λ g. same_at g ≡ true) → IfSome p (λ g. same_at g ≡ true) → IfSome o (λ g. is_at d i g ≡ true)
+      → IfSome p (λ g. is_at d i g ≡ true) →
       target_at c d i ≡ target_at e d i
   target-found i None None f g s t a b = ap (option_map (λ (x : Gate). x.target)) (f ∙ sym g)
   target-found i None (Some y) f g s t a b = target-tested i y t b
@@ -129,7 +134,11 @@ module _ (c e : Core) (d : ℕ) where
       (found-passes (is_at d i) c.gates) (found-passes (is_at d i) e.gates)
 
   decides-gates : Decides (list_all same_at (c.gates ++ e.gates)) ((i : ℕ) → target_at c d i ≡ target_at e d i)
-  decides-gates = (targets-same, λ k. all-from same_at (c.gates ++ e.gates) (λ g. (decides-target (target_at c d g.word) (target_at e d g.word)).1 (k g.word)))
+  decides-gates = (
+    targets-same,
+    λ k. all-from same_at (c.gates ++ e.gates) (λ g.
+        (decides-target (target_at c d g.word) (target_at e d g.word)).1 (k g.word)),
+  )
 
 -- a right outside RAM
 out-of-ram : (r : Reads) (c : Core) (q : Reads) (e : Core) → AreFit r c q e → (d i : ℕ) → c.size ≤ i → r.perm d i ≡ q.perm d i
@@ -167,10 +176,12 @@ agrees-decides r q c e h a =
     (Decides-and _ _ (Decides-eqb x.pc y.pc)
     (Decides-and _ _ (pointwise_decides Decides-eqb x.regs y.regs)
     (Decides-and _ _ (Decides-eqb x.domain y.domain)
-    (Decides-and _ _ (decides-words (same_right r q d) c.size (λ i. r.perm d i ≡ q.perm d i) (λ i. decides-right (r.perm d i) (q.perm d i)) (out-of-ram r c q e a d))
+    (Decides-and _ _ (decides-words (same_right r q d) c.size (λ i. r.perm d i ≡ q.perm d i) (λ i. decides-right (r.perm d i) (q.perm d i))
+    (out-of-ram r c q e a d))
     (Decides-and _ _ (decides-flag (module_at c d).dead (module_at e d).dead)
     (Decides-and _ _ (decides-gates c e d)
-    (Decides-and _ _ (decides-words (same_if_read r c e d) c.size (λ i. IsTrue (allows (r.perm d i) A.Read) → SameBytes c e i) (decides-bytes r c e d) (unread-outside r c q e a d))
+    (Decides-and _ _ (decides-words (same_if_read r c e d) c.size (λ i. IsTrue (allows (r.perm d i) A.Read)
+    → SameBytes c e i) (decides-bytes r c e d) (unread-outside r c q e a d))
     decides-none))))))))
 
 -- no right outside RAM
@@ -183,6 +194,7 @@ pub bounded-flat : (f : Flat) → IsFlat f → IsBounded (flat_reads f) f.core
 bounded-flat f p = record {
   outside = λ d word l.
       let size = f.core.size in
-      let count : length (map_in size f.maps d) ≡ size = all-at (λ (m : List Perm). length m ≡ size) f.maps (map [] size) p.whole_maps (length-map_of [] size) (d - 1) in
+      let count : length (map_in size f.maps d) ≡ size = all-at (λ (m : List Perm). length m ≡ size) f.maps (map [] size) p.whole_maps
+      (length-map_of [] size) (d - 1) in
       get_or-eq_default (map_in size f.maps d) P.None (subst (λ (n : ℕ). n ≤ word) (sym count) l);
 }

@@ -25,9 +25,17 @@ abbrev pub state : List ℕ → List Grant → ℕ → ℕ → State
 state ram grants x2 x31 = record {
   core = record {
     ram = ram;
-    modules = record { heap = record { first = 0; count = 0 }; blocks = []; stack = record { first = 0; words = 0 }; kills = false; dead = false } ∷ [];
+    modules = record {
+      heap = record { first = 0; count = 0 };
+      blocks = [];
+      stack = record { first = 0; words = 0 };
+      kills = false;
+      dead =
+          false;
+    } ∷ [];
     gates = [];
-    harts = record { regs = slice_set (slice_set (replicate 32 0) 2 x2) 31 x31; pc = ram_base; domain = 1; frames = []; status = Running } ∷ [];
+    harts = record { regs = slice_set (slice_set (replicate 32 0) 2 x2) 31 x31; pc = ram_base; domain = 1; frames = []; status = Running }
+        ∷ [];
     caches = no_cache ∷ [];
     turns = 0;
     size = 4;
@@ -100,7 +108,8 @@ other-gate : agreeing plain (gated 1) ≡ false
 other-gate = refl
 
 -- frames, the code of a halt and gates for another domain are no part of it
-other-frames : agreeing plain (with_hart (λ x. record x { frames = record { back = ram_base; caller = 1; kept = replicate 15 0 } ∷ [] })) ≡ true
+other-frames : agreeing plain (with_hart (λ x. record x { frames = record { back = ram_base; caller = 1; kept = replicate 15 0 } ∷ [] }))
+    ≡ true
 other-frames = refl
 
 other-code : agreeing (with_hart (λ x. record x { status = Halted None })) (with_hart (λ x. record x { status = Halted (Some 3) })) ≡ true
@@ -114,7 +123,8 @@ unread-agree : agree (state (secret 7) closed 0 0) (state (secret 8) closed 0 0)
 unread-agree =
     let s = state (secret 7) closed 0 0 in
     let t = state (secret 8) closed 0 0 in
-    (agrees-decides (reads s) (reads t) s.core t.core 0 (record { words = refl; first = bounded-state s; second = bounded-state t })).0 unread
+    (agrees-decides (reads s) (reads t) s.core t.core 0 (record { words = refl; first = bounded-state s; second = bounded-state t })).0
+    unread
 
 unread-free : free_twins (state (secret 7) closed 0 0) (state (secret 8) closed 0 0) 0
 unfolding decoded effect holds imm_result reg_result loaded number_at put_at imm_i imm_s imm_b imm_u imm_j extended

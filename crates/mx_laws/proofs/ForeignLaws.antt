@@ -1,5 +1,7 @@
 -- A turn leaves each word that its hart's domain may not write, but for the block of an alloc.
-use Rattle.std.proofs.Common.{◌≡◌, ◌≢◌, ℕ, zero, suc, ◌+◌, ◌-◌, ◌*◌, ◌/◌, ◌%◌, ◌<◌, ◌≤◌, ◌⊎◌, Bool, true, false, not, cond, ◌==◌, ◌&&◌, nat_lt, nat_le, List, length, get_or, set, refl, sym, ◌∙◌, ap, subst, arith, Option, Some, None, ⊎_elim, inl, inr}
+use Rattle.std.proofs.Common.{◌≡◌, ◌≢◌, ℕ, zero, suc, ◌+◌, ◌-◌, ◌*◌, ◌/◌, ◌%◌, ◌<◌, ◌≤◌, ◌⊎◌, Bool, true, false, not, cond, ◌==◌, ◌&&◌}
+use Rattle.std.proofs.Common.{nat_lt, nat_le, List, length, get_or, set, refl, sym, ◌∙◌, ap, subst, arith, Option, Some, None, ⊎_elim, inl}
+use Rattle.std.proofs.Common.{inr}
 use Rattle.std.proofs.lemmas.Bool.{and_parts, ltb-true, ltb-false, leb-true, leb-false}
 use Rattle.std.proofs.lemmas.List.{get_or-set_same, get_or-set_other}
 use Rattle.std.proofs.lemmas.Grind.{common_steps}
@@ -20,12 +22,14 @@ use Rattle.mx_model.specs.Gates.{top}
 use Rattle.mx_model.specs.Reads.{Reads}
 use Rattle.mx_model.specs.Serve.{Served, Alloc, service, serve, allocated, arg_word, with_blocks}
 use Rattle.mx_model.specs.State.{Core, Hart, Module, hart_at, module_at, with_module, no_module}
-use Rattle.mx_model.specs.Turn.{Action, Rests, Waits, Serves, Asks, Traps, Bounces, Crosses, Returns, Runs, Writes, Made, acted, answered, asked, by_status, call_of, done, given_up, halted, is_denied, is_served_now, killed, served, trapped, turned, with_regs}
+use Rattle.mx_model.specs.Turn.{Action, Rests, Waits, Serves, Asks, Traps, Bounces, Crosses, Returns, Runs, Writes, Made, acted, answered}
+use Rattle.mx_model.specs.Turn.{asked, by_status, call_of, done, given_up, halted, is_denied, is_served_now, killed, served, trapped}
+use Rattle.mx_model.specs.Turn.{turned, with_regs}
 use Rattle.mx_model.specs.Valid.{IsValid}
 use Rattle.mx_model.proofs.AlignedLaws.{in-word}
 use Rattle.mx_model.proofs.ValidParts.{home-at}
 use Rattle.mx_laws.specs.After.{domain_at}
-use Rattle.mx_laws.specs.Foreign.{heap_of, IsForeign, ForeignAfter, AllKept, AllButBlock}
+use Rattle.mx_laws.specs.Foreign.{heap_of, IsForeign, IsKept, ForeignAfter, AllKept, AllButBlock}
 use Rattle.mx_laws.proofs.ReadLaws.{allowed-if}
 use Rattle.mx_laws.proofs.CallWalk.{CallLeaves, served-walk}
 use Rattle.mx_laws.proofs.Lawful.{IsLawful, OwnCall, lawful-turn, present}
@@ -33,12 +37,13 @@ use Rattle.mx_laws.proofs.TurnParts.{apart, by-action}
 use Rattle.mx_laws.proofs.TwinLaws.{ended-rests, kind-asked}
 
 -- a byte beside a store
-put-beside : (size : ℕ) (xs : List ℕ) (k n j : ℕ) → (j < k) ⊎ (k + size ≤ j) → get_or (put_at xs k size n) j 0 ≡ get_or xs j 0
+pub put-beside : (size : ℕ) (xs : List ℕ) (k n j : ℕ) → (j < k) ⊎ (k + size ≤ j) → get_or (put_at xs k size n) j 0 ≡ get_or xs j 0
 unfolding put_at
 put-beside zero xs k n j p = refl
 put-beside (suc size) xs k n j p =
     put-beside size (set xs k (n % 256)) (k + 1) (n / 256) j (⊎_elim (λ l. inl (omega (arith, l))) (λ l. inr (omega (arith, l))) p)
-    ∙ get_or-set_other xs k j (n % 256) 0 (λ e. ⊎_elim (λ l. let q : ⊥ = omega (arith, l, e) in q) (λ l. let q : ⊥ = omega (arith, l, e) in q) p)
+    ∙ get_or-set_other xs k j (n % 256) 0 (λ e. ⊎_elim (λ l. let q : ⊥ = omega (arith, l, e) in q) (λ l. let q : ⊥ = omega (arith, l, e) in
+    q) p)
 
 -- a byte beside the cleared ones, and one of them
 pub cleared-beside : (xs : List ℕ) (k n j : ℕ) → k + n ≤ length xs → (j < k) ⊎ (k + n ≤ j) → get_or (cleared_at xs k n) j 0 ≡ get_or xs j 0
@@ -49,14 +54,21 @@ cleared-inside : (xs : List ℕ) (k n j : ℕ) → k + n ≤ length xs → k ≤
 unfolding cleared_at
 cleared-inside xs k n j p a b = grind (arith, common_steps)
 
+-- the same RAM keeps each word
+pub kept-ram : (c e : Core) (w : ℕ) → e.ram ≡ c.ram → IsKept c e w
+kept-ram c e w n k l = ap (λ (xs : List ℕ). get_or xs (4 * w + k) 0) n
+
+-- a word outside a range lies before or behind it
 pub uncovered : (first count w : ℕ) → covers first count w ≡ false → (w < first) ⊎ (first + count ≤ w)
-uncovered first count w e = elim (nat_le first w) as (λ b. nat_le first w ≡ b → b && nat_lt (w - first) count ≡ false → (w < first) ⊎ (first + count ≤ w)) [
-  | true ↦ λ t f. let a = leb-true first w t in let b = ltb-false (w - first) count f in inr (omega (arith, a, b))
-  | false ↦ λ t f. inl (leb-false first w t)
-] refl e
+uncovered first count w e = elim (nat_le first w) as (λ b. nat_le first w ≡ b → b && nat_lt (w - first) count ≡ false
+    → (w < first) ⊎ (first + count ≤ w)) [
+      | true ↦ λ t f. let a = leb-true first w t in let b = ltb-false (w - first) count f in inr (omega (arith, a, b))
+      | false ↦ λ t f. inl (leb-false first w t)
+    ] refl e
 
 -- a state with the same RAM and modules
-foreign-moved : (r : Reads) (c : Core) (h : ℕ) (e f : Core) → f.ram ≡ e.ram → f.modules ≡ e.modules → ForeignAfter r c h e → ForeignAfter r c h f
+foreign-moved : (r : Reads) (c : Core) (h : ℕ) (e f : Core) → f.ram ≡ e.ram → f.modules ≡ e.modules → ForeignAfter r c h e
+    → ForeignAfter r c h f
 foreign-moved r c h e f n m (AllKept p) = AllKept (λ w g k l. ap (λ (xs : List ℕ). get_or xs (4 * w + k) 0) n ∙ p w g k l)
 foreign-moved r c h e f n m (AllButBlock p) = AllButBlock (record {
   call = p.call;
@@ -83,15 +95,19 @@ module _ (r : Reads) (c : Core) (h : ℕ) where
       e.ram ≡ put_at c.ram (4 * v + offset) size n → ForeignAfter r c h e
   kept-store e v offset size n s a i = AllKept (λ w f k l.
       let apart : w ≢ v = other-word w v f a in
-      ap (λ (xs : List ℕ). get_or xs (4 * w + k) 0) i ∙ put-beside size c.ram (4 * v + offset) n (4 * w + k) (beside w v k offset size s l apart))
+      ap (λ (xs : List ℕ). get_or xs (4 * w + k) 0) i ∙ put-beside size c.ram (4 * v + offset) n (4 * w + k)
+      (beside w v k offset size s l apart))
     where
-      beside : (w v k offset size : ℕ) → offset + size ≤ 4 → k < 4 → w ≢ v → (4 * w + k < 4 * v + offset) ⊎ (4 * v + offset + size ≤ 4 * w + k)
-      beside w v k offset size s l n = elim (nat_lt w v) as (λ b. nat_lt w v ≡ b → (4 * w + k < 4 * v + offset) ⊎ (4 * v + offset + size ≤ 4 * w + k)) [
-        | true ↦ λ t. let q = ltb-true w v t in inl (omega (arith, q, l))
-        | false ↦ λ t. let q = ltb-false w v t in let d : v < w = omega (arith, q, n) in inr (omega (arith, d, s))
-      ] refl
+      beside : (w v k offset size : ℕ) → offset + size ≤ 4 → k < 4 → w ≢ v
+          → (4 * w + k < 4 * v + offset) ⊎ (4 * v + offset + size ≤ 4 * w + k)
+      beside w v k offset size s l n = elim (nat_lt w v) as (λ b. nat_lt w v ≡ b
+          → (4 * w + k < 4 * v + offset) ⊎ (4 * v + offset + size ≤ 4 * w + k)) [
+            | true ↦ λ t. let q = ltb-true w v t in inl (omega (arith, q, l))
+            | false ↦ λ t. let q = ltb-false w v t in let d : v < w = omega (arith, q, n) in inr (omega (arith, d, s))
+          ] refl
 
-  kept-write : (e : Core) (address size value : ℕ) → IsSize size → address % size ≡ 0 → is_denied r c (domain_at c h) address A.Write ≡ false →
+  kept-write : (e : Core) (address size value : ℕ) → IsSize size → address % size ≡ 0
+      → is_denied r c (domain_at c h) address A.Write ≡ false →
       e.ram ≡ put_at c.ram (address - ram_base) size value → ForeignAfter r c h e
   kept-write e address size value s a n i =
       let may = allowed-if r c (domain_at c h) address A.Write n in
@@ -129,10 +145,12 @@ module _ (r : Reads) (c : Core) (h : ℕ) (v : IsValid c) (l : h < length c.hart
       let d = (v.harts h l).domain in
       let low = d.first in
       let high = d.last in
-      let inside : domain - 1 < length cleared.modules = subst (λ (ms : List Module). domain - 1 < length ms) (sym e) (omega (arith, low, high)) in
+      let inside : domain - 1 < length cleared.modules = subst (λ (ms : List Module). domain - 1 < length ms) (sym e)
+      (omega (arith, low, high)) in
       ap (λ (x : Module). x.blocks) (get_or-set_same cleared.modules (domain - 1) m no_module inside)
 
-  alloc-after : service call.number ≡ Alloc → (first : ℕ) → HasRoom (heap_of c h) (arg call 0) first → ForeignAfter r c h (allocated seen call first).core
+  alloc-after : service call.number ≡ Alloc → (first : ℕ) → HasRoom (heap_of c h) (arg call 0) first
+      → ForeignAfter r c h (allocated seen call first).core
   alloc-after s first room =
       let n = arg call 0 in
       let high = room.high in
@@ -163,16 +181,18 @@ module _ (r : Reads) (c : Core) (h : ℕ) (v : IsValid c) (l : h < length c.hart
     modules = λ modules. foreign-ram r c h (record seen { modules = modules }) refl;
     gates = λ gates. foreign-ram r c h (record seen { gates = gates }) refl;
     exchange = λ a. let place : 4 * arg_word call + 0 ≡ 4 * arg_word call = omega arith in
-        kept-store r c h (record seen { ram = put_at c.ram (4 * arg_word call) 4 (arg call 1) }) (arg_word call) 0 4 (arg call 1) (omega arith) a
+        kept-store r c h (record seen { ram = put_at c.ram (4 * arg_word call) 4 (arg call 1) }) (arg_word call) 0 4 (arg call 1)
+        (omega arith) a
         (ap (λ (k : ℕ). put_at c.ram k 4 (arg call 1)) (sym place));
     alloc = λ s first e. alloc-after s first (room-is (heap_of c h) (module_at c domain).blocks (arg call 0) first e);
   }
 
   foreign-done : (x : Hart) (s : Served) → ForeignAfter r c h s.core → ForeignAfter r c h (done h x s).core
-  foreign-done x s p = elim s.stop as (λ b. ForeignAfter r c h (cond b (halted h x (Some s.a0) s.core) (with_regs h x (answered x s.a0 s.a1) (next x.pc) s.core))) [
-    | true ↦ foreign-moved r c h s.core (halted h x (Some s.a0) s.core) refl refl p
-    | false ↦ foreign-moved r c h s.core (with_regs h x (answered x s.a0 s.a1) (next x.pc) s.core) refl refl p
-  ]
+  foreign-done x s p = elim s.stop as (λ b. ForeignAfter r c h
+      (cond b (halted h x (Some s.a0) s.core) (with_regs h x (answered x s.a0 s.a1) (next x.pc) s.core))) [
+        | true ↦ foreign-moved r c h s.core (halted h x (Some s.a0) s.core) refl refl p
+        | false ↦ foreign-moved r c h s.core (with_regs h x (answered x s.a0 s.a1) (next x.pc) s.core) refl refl p
+      ]
 
   pub foreign-served : (asked : Call) → asked ≡ call → ForeignAfter r c h (served r seen h (hart_at c h) asked).core
   foreign-served asked e = subst (λ (k : Call). ForeignAfter r c h (served r seen h (hart_at c h) k).core) (sym e)
@@ -184,10 +204,11 @@ module _ (r : Reads) (c : Core) (h : ℕ) (v : IsValid c) (l : h < length c.hart
 
 -- a fault writes nothing
 pub ram-killed : (d cause : ℕ) (c : Core) → (killed d cause c).ram ≡ c.ram
-ram-killed d cause c = elim ((module_at c d).kills && not (cause == 20)) as (λ b. (cond b (with_module d (record (module_at c d) { dead = true }) c) c).ram ≡ c.ram) [
-  | true ↦ refl
-  | false ↦ refl
-]
+ram-killed d cause c = elim ((module_at c d).kills && not (cause == 20)) as (λ b.
+    (cond b (with_module d (record (module_at c d) { dead = true }) c) c).ram ≡ c.ram) [
+      | true ↦ refl
+      | false ↦ refl
+    ]
 
 pub ram-given_up : (c : Core) (h : ℕ) (x : Hart) (cause : ℕ) (o : Option Frame) → (given_up c h x cause o).ram ≡ c.ram
 ram-given_up c h x cause None = refl
@@ -197,8 +218,10 @@ ram-trapped : (c : Core) (h : ℕ) (x : Hart) (cause value : ℕ) → (trapped c
 ram-trapped c h x cause value = ram-given_up (killed x.domain cause c) h x cause (top x.frames) ∙ ram-killed x.domain cause c
 
 -- an action
-foreign-acted : (r : Reads) (c : Core) (h turns : ℕ) (harts : List Hart) (caches : List Cache) (a : Action) → IsValid c → h < length c.harts →
-    IsLawful (OwnCall h (hart_at c h)) r c h (hart_at c h) a → ForeignAfter r c h (acted r (apart c turns harts caches) h (hart_at c h) a).core
+foreign-acted : (r : Reads) (c : Core) (h turns : ℕ) (harts : List Hart) (caches : List Cache) (a : Action) → IsValid c
+    → h < length c.harts →
+    IsLawful (OwnCall h (hart_at c h)) r c h (hart_at c h) a → ForeignAfter r c h
+    (acted r (apart c turns harts caches) h (hart_at c h) a).core
 foreign-acted r c h turns harts caches Rests v l p = foreign-ram r c h _ refl
 foreign-acted r c h turns harts caches Waits v l p = foreign-ram r c h _ refl
 foreign-acted r c h turns harts caches (Serves call) v l p = foreign-served r c h v l turns harts caches call p

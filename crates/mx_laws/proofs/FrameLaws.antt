@@ -1,5 +1,6 @@
 -- A turn keeps its hart's frames, pushes one, or gives up the top one and goes on as that one holds; other harts' frames stay.
-use Rattle.std.proofs.Common.{◌≡◌, ◌≢◌, ℕ, ◌-◌, ◌<◌, Bool, true, false, not, cond, ◌==◌, ◌&&◌, ◌||◌, List, [], ◌∷◌, ◌++◌, length, get_or, set, take, fold, refl, sym, ◌∙◌, ap, subst, arith, eq-eqb, Option, Some, None, unwrap_or, ⊎_elim, rules}
+use Rattle.std.proofs.Common.{◌≡◌, ◌≢◌, ℕ, ◌-◌, ◌<◌, Bool, true, false, not, cond, ◌==◌, ◌&&◌, ◌||◌, List, [], ◌∷◌, ◌++◌, length, get_or}
+use Rattle.std.proofs.Common.{set, take, fold, refl, sym, ◌∙◌, ap, subst, arith, eq-eqb, Option, Some, None, unwrap_or, ⊎_elim, rules}
 use Rattle.std.proofs.Common.{map as list_map}
 use Rattle.std.specs.Prelude.{IfSome, slice_set, zip}
 use Rattle.std.specs.List.{AllByRecursion, list_any, last_or}
@@ -12,7 +13,9 @@ use Rattle.mx_model.specs.Gates.{top, below_top, nearest}
 use Rattle.mx_model.specs.Reads.{Reads}
 use Rattle.mx_model.specs.Serve.{Served, serve}
 use Rattle.mx_model.specs.State.{Core, Hart, Running, Waiting, Halted, no_hart, hart_at, module_at, with_module}
-use Rattle.mx_model.specs.Turn.{Action, Rests, Waits, Serves, Asks, Traps, Bounces, Crosses, Returns, Runs, Writes, Made, acted, answered, asked, by_status, done, fault_answer, given_up, halted, is_served_now, killed, restored, saved, saved_registers, stack_address, turned, with_regs}
+use Rattle.mx_model.specs.Turn.{Action, Rests, Waits, Serves, Asks, Traps, Bounces, Crosses, Returns, Runs, Writes, Made, acted, answered}
+use Rattle.mx_model.specs.Turn.{asked, by_status, done, fault_answer, given_up, halted, is_served_now, killed, restored, saved}
+use Rattle.mx_model.specs.Turn.{saved_registers, stack_address, turned, with_regs}
 use Rattle.mx_model.specs.Valid.{IsFrame, IsValid}
 use Rattle.mx_model.proofs.ListLaws.{all-last}
 use Rattle.mx_laws.specs.Crossing.{frame_of, FramesAfter, Stay, OneMore, OneLess}
@@ -36,10 +39,11 @@ abbrev put_back : List ℕ → List ℕ → List ℕ → List ℕ
 put_back regs ns ks = fold (λ rs (p : ℕ × ℕ). slice_set rs p.0 p.1) regs (zip ns ks)
 
 other-any : (n m : ℕ) (ns : List ℕ) → list_any (λ i. i == n) (m ∷ ns) ≡ false → (n ≢ m) × (list_any (λ i. i == n) ns ≡ false)
-other-any n m ns e = elim (m == n) as (λ b. (m == n) ≡ b → b || list_any (λ i. i == n) ns ≡ false → (n ≢ m) × (list_any (λ i. i == n) ns ≡ false)) [
-  | true ↦ λ t f. absurd (let q : ⊥ = cc in q)
-  | false ↦ λ t f. (λ s. let k : (m == n) ≡ true = eq-eqb m n (sym s) in let q : ⊥ = cc in q, f)
-] refl e
+other-any n m ns e = elim (m == n) as (λ b. (m == n) ≡ b → b || list_any (λ i. i == n) ns ≡ false
+    → (n ≢ m) × (list_any (λ i. i == n) ns ≡ false)) [
+      | true ↦ λ t f. absurd (let q : ⊥ = cc in q)
+      | false ↦ λ t f. (λ s. let k : (m == n) ≡ true = eq-eqb m n (sym s) in let q : ⊥ = cc in q, f)
+    ] refl e
 
 put-other : (regs ns ks : List ℕ) (n : ℕ) → list_any (λ i. i == n) ns ≡ false → get_or (put_back regs ns ks) n 0 ≡ get_or regs n 0
 put-other regs [] ks n e = refl
@@ -70,7 +74,7 @@ pub saved-restored : (regs kept : List ℕ) → length regs ≡ 32 → length ke
 saved-restored regs kept e f = put-all regs saved_registers kept (subst (λ (n : ℕ). AreDistinct n saved_registers) (sym e) saved-distinct) f
 
 -- a served call leaves the harts
-harts-leaves : (r : Reads) (c : Core) (call : Call) → CallLeaves r c call (λ (e : Core). e.harts ≡ c.harts)
+pub harts-leaves : (r : Reads) (c : Core) (call : Call) → CallLeaves r c call (λ (e : Core). e.harts ≡ c.harts)
 harts-leaves r c call = record {
   caches = λ e caches p. p;
   none = refl;
@@ -84,27 +88,31 @@ pub harts-serve : (r : Reads) (c : Core) (call : Call) → (serve r c call).core
 harts-serve r c call = served-walk r c call (λ (e : Core). e.harts ≡ c.harts) (harts-leaves r c call)
 
 pub harts-killed : (d cause : ℕ) (c : Core) → (killed d cause c).harts ≡ c.harts
-harts-killed d cause c = elim ((module_at c d).kills && not (cause == 20)) as (λ b. (cond b (with_module d (record (module_at c d) { dead = true }) c) c).harts ≡ c.harts) [
-  | true ↦ refl
-  | false ↦ refl
-]
+harts-killed d cause c = elim ((module_at c d).kills && not (cause == 20)) as (λ b.
+    (cond b (with_module d (record (module_at c d) { dead = true }) c) c).harts ≡ c.harts) [
+      | true ↦ refl
+      | false ↦ refl
+    ]
 
 -- hart h after its action: as it is, or set to a hart with such a property
 data IsSet (old new : List Hart) (h : ℕ) (Y : Hart → Type 0) : Type 0 where
   Left : new ≡ old → IsSet old new h Y
   Set : (y : Hart) → new ≡ set old h y → Y y → IsSet old new h Y
 
-set-done : (h : ℕ) (x : Hart) (s : Served) (old : List Hart) (Y : Hart → Type 0) → s.core.harts ≡ old → ((y : Hart) → y.frames ≡ x.frames → Y y) →
+set-done : (h : ℕ) (x : Hart) (s : Served) (old : List Hart) (Y : Hart → Type 0) → s.core.harts ≡ old
+    → ((y : Hart) → y.frames ≡ x.frames → Y y) →
     IsSet old (done h x s).core.harts h Y
 set-done h x s old Y e k =
     let y : Hart = record x { status = Halted (Some s.a0) } in
     let z : Hart = record x { regs = answered x s.a0 s.a1; pc = next x.pc; status = Running } in
-    elim s.stop as (λ b. IsSet old (cond b (halted h x (Some s.a0) s.core) (with_regs h x (answered x s.a0 s.a1) (next x.pc) s.core)).harts h Y) [
+    elim s.stop as (λ b. IsSet old (cond b (halted h x (Some s.a0) s.core) (with_regs h x (answered x s.a0 s.a1) (next x.pc) s.core)).harts
+    h Y) [
       | true ↦ Set y (ap (λ (hs : List Hart). set hs h y) e) (k y refl)
       | false ↦ Set z (ap (λ (hs : List Hart). set hs h z) e) (k z refl)
     ]
 
-set-asked : (r : Reads) (c : Core) (h : ℕ) (x : Hart) (call : Call) (Y : Hart → Type 0) → ((y : Hart) → y.frames ≡ x.frames → Y y) → (b : Bool) →
+set-asked : (r : Reads) (c : Core) (h : ℕ) (x : Hart) (call : Call) (Y : Hart → Type 0) → ((y : Hart) → y.frames ≡ x.frames → Y y)
+    → (b : Bool) →
     IsSet c.harts (asked r c h x call b).core.harts h Y
 set-asked r c h x call Y k true = set-done h x (serve r c call) c.harts Y (harts-serve r c call) k
 set-asked r c h x call Y k false = let y : Hart = record x { status = Waiting call nobody } in Set y refl (k y refl)
@@ -119,7 +127,8 @@ record Frames (x : Hart) (Y : Hart → Type 0) : Type 0 where
   more : (y : Hart) → y.frames ≡ x.frames ++ frame_of x ∷ [] → Y y
   less : (f : Frame) (regs : List ℕ) → top x.frames ≡ Some f → length regs ≡ length x.regs → Y (over x f regs)
 
-set-given_up : (c : Core) (h : ℕ) (x : Hart) (cause : ℕ) (old : List Hart) (Y : Hart → Type 0) → Frames x Y → c.harts ≡ old → (o : Option Frame) →
+set-given_up : (c : Core) (h : ℕ) (x : Hart) (cause : ℕ) (old : List Hart) (Y : Hart → Type 0) → Frames x Y → c.harts ≡ old
+    → (o : Option Frame) →
     top x.frames ≡ o → IsSet old (given_up c h x cause o).harts h Y
 set-given_up c h x cause old Y k e None t =
     let y : Hart = record x { status = Halted None } in Set y (ap (λ (hs : List Hart). set hs h y) e) (k.stay y refl)
@@ -128,13 +137,18 @@ set-given_up c h x cause old Y k e (Some f) t =
     Set (over x f regs) (ap (λ (hs : List Hart). set hs h (over x f regs)) e) (k.less f regs t (length-set x.regs 10 (fault_answer cause)))
 
 length-written : (regs : List ℕ) (rd v : ℕ) → length (written regs rd v) ≡ length regs
-length-written regs rd v = elim (rd == 0) as (λ b. length (cond b regs (slice_set regs rd v)) ≡ length regs) [ true ↦ refl | false ↦ length-set regs rd v ]
+length-written regs rd v = elim (rd == 0) as (λ b. length (cond b regs (slice_set regs rd v)) ≡ length regs) [
+  | true ↦ refl
+  | false ↦
+      length-set regs rd v
+]
 
 -- hart x with other registers and another pc
 abbrev pub going : Hart → List ℕ → ℕ → Hart
 going x regs pc = record x { regs = regs; pc = pc; status = Running }
 
-set-acted : (V : Call → Type 0) (r : Reads) (c d : Core) (h : ℕ) (x : Hart) (Y : Hart → Type 0) → Frames x Y → (a : Action) → IsLawful V r d h x a →
+set-acted : (V : Call → Type 0) (r : Reads) (c d : Core) (h : ℕ) (x : Hart) (Y : Hart → Type 0) → Frames x Y → (a : Action)
+    → IsLawful V r d h x a →
     IsSet c.harts (acted r c h x a).core.harts h Y
 set-acted V r c d h x Y k Rests p = Left refl
 set-acted V r c d h x Y k Waits p = Left refl
@@ -165,7 +179,8 @@ frames-own x n k = record {
       (record { pc = refl; domain = refl; registers = saved-restored regs f.kept (e ∙ n) (k f t) });
 }
 
-top-kept : (modules : ℕ) (frames : List Frame) (f : Frame) → AllByRecursion (IsFrame modules) frames → top frames ≡ Some f → length f.kept ≡ 15
+top-kept : (modules : ℕ) (frames : List Frame) (f : Frame) → AllByRecursion (IsFrame modules) frames → top frames ≡ Some f
+    → length f.kept ≡ 15
 top-kept modules frames f p e =
     let q : IfSome (top frames) (IsFrame modules) = all-last (IsFrame modules) frames None p tt in
     let s : IsFrame modules f = subst (λ (o : Option Frame). IfSome o (IsFrame modules)) e q in s.count
@@ -188,7 +203,8 @@ frames-turned r c h v =
     (⊎_elim (λ e. subst (λ (b : Action). FramesAfter x (hart_at (acted r after h x b).core h)) (sym e) (Stay same))
     (λ l. let valid = v.harts h l in
     own-set c h x t.harts (acted r after h x a).core.harts (subst (λ (n : ℕ). h < n) (sym t.heard.count) l) same
-    (set-acted (OwnCall h x) r after c h x (FramesAfter x) (frames-own x valid.regs.count (λ f e. top-kept (length c.modules) x.frames f valid.frames e)) a
+    (set-acted (OwnCall h x) r after c h x (FramesAfter x) (frames-own x valid.regs.count (λ f e.
+    top-kept (length c.modules) x.frames f valid.frames e)) a
     (lawful-turn r c h t.turns t.harts t.before v)))
     (present r c h t.turns t.harts t.before))
 
@@ -196,7 +212,8 @@ frames-turned r c h v =
 frames-any : (x : Hart) → Frames x (λ (y : Hart). Unit {0})
 frames-any x = record { stay = λ y e. tt; more = λ y e. tt; less = λ f regs t e. tt }
 
-other-set : (h g : ℕ) (old new : List Hart) → g ≢ h → IsSet old new h (λ (y : Hart). Unit {0}) → (get_or new g no_hart).frames ≡ (get_or old g no_hart).frames
+other-set : (h g : ℕ) (old new : List Hart) → g ≢ h → IsSet old new h (λ (y : Hart). Unit {0})
+    → (get_or new g no_hart).frames ≡ (get_or old g no_hart).frames
 other-set h g old new n (Left e) = ap (λ (hs : List Hart). (get_or hs g no_hart).frames) e
 other-set h g old new n (Set y e p) =
     ap (λ (hs : List Hart). (get_or hs g no_hart).frames) e ∙ ap (λ (x : Hart). x.frames) (get_or-set_other old h g y no_hart n)

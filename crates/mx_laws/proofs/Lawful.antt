@@ -9,7 +9,8 @@ use Rattle.mx_model.specs.Checks.{is_halted, is_ready}
 use Rattle.mx_model.specs.Gates.{top}
 use Rattle.mx_model.specs.Reads.{Reads}
 use Rattle.mx_model.specs.State.{Core, Hart, Status, Running, Waiting, Halted, hart_at}
-use Rattle.mx_model.specs.Turn.{Action, Rests, Waits, Serves, Asks, Traps, Bounces, Crosses, Returns, Runs, Writes, call_of, is_denied, by_status}
+use Rattle.mx_model.specs.Turn.{Action, Rests, Waits, Serves, Asks, Traps, Bounces, Crosses, Returns, Runs, Writes, call_of, is_denied}
+use Rattle.mx_model.specs.Turn.{by_status}
 use Rattle.mx_model.specs.Valid.{IsStatus, IsValid}
 use Rattle.mx_laws.proofs.Walk.{Leaves, IsPassing, Stopped, SentBack, Passed, IsReturning, Refused, Returned, same-self, walk}
 use Rattle.mx_laws.proofs.TurnParts.{apart, there}
@@ -37,7 +38,8 @@ lawful-returning : (V : Call → Type 0) (r : Reads) (c : Core) (h : ℕ) (x : H
 lawful-returning V r c h x a (Refused cause value) = tt
 lawful-returning V r c h x a (Returned rd frame p) = p
 
-lawful-leaves : (V : Call → Type 0) (r : Reads) (c : Core) (h : ℕ) (x : Hart) → Leaves r c h x x.frames x.status (λ (k : Border) (a : Action) (l : Border) (b : Action). IsLawful V r c h x a)
+lawful-leaves : (V : Call → Type 0) (r : Reads) (c : Core) (h : ℕ) (x : Hart)
+    → Leaves r c h x x.frames x.status (λ (k : Border) (a : Action) (l : Border) (b : Action). IsLawful V r c h x a)
 lawful-leaves V r c h x = record {
   trap = λ cause value. tt;
   gate = λ word target x1 a b p q. lawful-passing V r c h x a p;
@@ -53,8 +55,10 @@ lawful-waiting : (V : Call → Type 0) (r : Reads) (c : Core) (h : ℕ) (x : Har
 lawful-waiting V r c h x call true p = p
 lawful-waiting V r c h x call false p = tt
 
-lawful-status : (V : Call → Type 0) (r : Reads) (c : Core) (h : ℕ) (x : Hart) (s : Status) → WaitsOn V s → IsLawful V r c h x (by_status r c h x s).action
-lawful-status V r c h x Running p = walk r c r c h x x.frames x.status (λ k a l b. IsLawful V r c h x a) (same-self r c x) (lawful-leaves V r c h x)
+lawful-status : (V : Call → Type 0) (r : Reads) (c : Core) (h : ℕ) (x : Hart) (s : Status) → WaitsOn V s
+    → IsLawful V r c h x (by_status r c h x s).action
+lawful-status V r c h x Running p = walk r c r c h x x.frames x.status (λ k a l b. IsLawful V r c h x a) (same-self r c x)
+    (lawful-leaves V r c h x)
 lawful-status V r c h x (Waiting call heard) p = lawful-waiting V r c h x call (is_ready c h heard) p
 lawful-status V r c h x (Halted code) p = tt
 
@@ -72,7 +76,8 @@ lawful-apart V r c h turns harts caches x Bounces p = tt
 lawful-apart V r c h turns harts caches x (Crosses target) p = tt
 lawful-apart V r c h turns harts caches x (Runs regs pc) p = tt
 
-lawful-decided : (V : Call → Type 0) (r : Reads) (c : Core) (h turns : ℕ) (harts : List Hart) (caches : List Cache) → WaitsOn V (hart_at c h).status →
+lawful-decided : (V : Call → Type 0) (r : Reads) (c : Core) (h turns : ℕ) (harts : List Hart) (caches : List Cache)
+    → WaitsOn V (hart_at c h).status →
     IsLawful V r c h (hart_at c h) (by_status r (apart c turns harts caches) h (hart_at c h) (hart_at c h).status).action
 lawful-decided V r c h turns harts caches p =
     let x = hart_at c h in
@@ -102,7 +107,8 @@ waits-on-own harts h x (Waiting call heard) p = (p refl).own
 waits-on-own harts h x (Halted code) p = tt
 
 pub lawful-turn : (r : Reads) (c : Core) (h turns : ℕ) (harts : List Hart) (caches : List Cache) → IsValid c →
-    IsLawful (OwnCall h (hart_at c h)) r c h (hart_at c h) (by_status r (apart c turns harts caches) h (hart_at c h) (hart_at c h).status).action
+    IsLawful (OwnCall h (hart_at c h)) r c h (hart_at c h) (by_status r (apart c turns harts caches) h (hart_at c h)
+    (hart_at c h).status).action
 lawful-turn r c h turns harts caches v =
     lawful-decided (OwnCall h (hart_at c h)) r c h turns harts caches
     (waits-on-own (length c.harts) h (hart_at c h) (hart_at c h).status (λ e. (v.harts h (there c h e)).status))
@@ -116,4 +122,5 @@ present-status r c h count x (Halted code) p = inl refl
 
 pub present : (r : Reads) (c : Core) (h turns : ℕ) (harts : List Hart) (caches : List Cache) →
     ((by_status r (apart c turns harts caches) h (hart_at c h) (hart_at c h).status).action ≡ Rests) ⊎ (h < length c.harts)
-present r c h turns harts caches = present-status r (apart c turns harts caches) h (length c.harts) (hart_at c h) (hart_at c h).status (there c h)
+present r c h turns harts caches = present-status r (apart c turns harts caches) h (length c.harts) (hart_at c h) (hart_at c h).status
+    (there c h)

@@ -102,7 +102,8 @@ abbrev pub proxy : State
 proxy = small ((20, 0x12345678) ∷ []) (no_module ∷ record no_module { heap = area 20 1 } ∷ []) ([] ∷ [] ∷ []) (give 20 1 2 ∷ []) []
     (hart_of 1 0x80000000 (regs_with []) [] (Waiting (call 6 (1 ∷ 0 ∷ 0 ∷ 0 ∷ []) 0 2 false) nobody) ∷ []) 8
 
-cleared-for-another : ((reads proxy).perm 1 20 ≡ P.None) × (number_at proxy.core.ram 80 4 ≡ 0x12345678) × (number_at (turn proxy 0).core.ram 80 4 ≡ 0)
+cleared-for-another : ((reads proxy).perm 1 20 ≡ P.None) × (number_at proxy.core.ram 80 4 ≡ 0x12345678)
+    × (number_at (turn proxy 0).core.ram 80 4 ≡ 0)
 unfolding decoded effect holds imm_result reg_result loaded number_at put_at cleared_at imm_i imm_s imm_b imm_u imm_j extended
 cleared-for-another = (refl, refl, refl)
 

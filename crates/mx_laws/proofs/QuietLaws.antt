@@ -1,8 +1,9 @@
 -- Turns that neither trap nor call: what they add, and how they leave the harts.
-use Rattle.std.proofs.Common.{◌≡◌, ℕ, suc, ◌<◌, Bool, true, false, ◌==◌, List, [], ◌∷◌, ◌++◌, length, get_or, set, refl, sym, ◌∙◌, ap, subst, arith, eqb-true, if◌then◌else◌, Option, rules}
+use Rattle.std.proofs.Common.{◌≡◌, ℕ, zero, suc, ◌<◌, Bool, true, false, ◌==◌, List, [], ◌∷◌, ◌++◌, length, get_or, set, refl, sym, ◌∙◌, ap}
+use Rattle.std.proofs.Common.{subst, arith, eqb-true, if◌then◌else◌, Option, rules}
 use Rattle.std.specs.Prelude.{option_to_list}
 use Rattle.std.specs.List.{list_all}
-use Rattle.std.proofs.lemmas.Bool.{eqb-false}
+use Rattle.std.proofs.lemmas.Bool.{and_parts, eqb-false}
 use Rattle.std.proofs.lemmas.List.{get_or-set_same, get_or-set_other}
 use Rattle.mx_words.specs.Newest.{Give}
 use Rattle.mx_model.specs.declared.values.Call.{Call}
@@ -12,11 +13,20 @@ use Rattle.mx_model.specs.Checks.{is_halted, is_ready}
 use Rattle.mx_model.specs.Reads.{Reads, reads, flat_reads}
 use Rattle.mx_model.specs.Run.{flat_kind, flat_turn, grants_after, kind, maps_after, owners_after, turn}
 use Rattle.mx_model.specs.State.{Core, Hart, Status, Running, Waiting, Halted, State, Flat, no_hart, hart_at}
-use Rattle.mx_model.specs.Turn.{Action, Rests, Waits, Serves, Asks, Traps, Bounces, Crosses, Returns, Runs, Writes, Made, acted, asked, by_status, is_served_now, turned}
+use Rattle.mx_model.specs.Turn.{Action, Rests, Waits, Serves, Asks, Traps, Bounces, Crosses, Returns, Runs, Writes, Made, acted, asked}
+use Rattle.mx_model.specs.Turn.{by_status, is_served_now, turned}
 use Rattle.mx_model.proofs.KeepLaws.{keeps-turned}
 use Rattle.mx_laws.specs.After.{core_after, kind_of, standing_at}
 use Rattle.mx_laws.specs.Quiet.{AddedNothing, AddsNothing, AreQuiet, IsLeftByRow, SameEnd, SameRights, SameStandings, may_tell, row}
 use Rattle.mx_laws.proofs.TurnParts.{apart, by-action, there}
+
+-- where all harts are halted, each is
+pub halted-each : (harts : List Hart) (h : ℕ) → list_all (λ (hart : Hart). is_halted hart.status) harts ≡ true →
+    is_halted (get_or harts h no_hart).status ≡ true
+halted-each [] h e = refl
+halted-each (x ∷ xs) zero e = (and_parts (is_halted x.status) (list_all (λ (hart : Hart). is_halted hart.status) xs) e).0
+halted-each (x ∷ xs) (suc h) e =
+    halted-each xs h (and_parts (is_halted x.status) (list_all (λ (hart : Hart). is_halted hart.status) xs) e).1
 
 loud-asked : (r : Reads) (c : Core) (h : ℕ) (x : Hart) (call : Call) (b : Bool) →
     may_tell (asked r c h x call b).kind ≡ false → ⊥
@@ -130,7 +140,7 @@ has_ended Going = false
 has_ended Waited = false
 has_ended Ended = true
 
-ended-status : (s : Status) → is_halted s ≡ has_ended (standing s)
+pub ended-status : (s : Status) → is_halted s ≡ has_ended (standing s)
 ended-status Running = refl
 ended-status (Waiting call heard) = refl
 ended-status (Halted code) = refl

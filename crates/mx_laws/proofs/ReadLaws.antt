@@ -1,5 +1,6 @@
 -- Where two states agree for a hart, its turn reads the same in both.
-use Rattle.std.proofs.Common.{◌≡◌, ℕ, zero, suc, ◌+◌, ◌-◌, ◌*◌, ◌/◌, ◌%◌, ◌<◌, ◌≤◌, Bool, true, false, not, nat_le, nat_lt, List, get_or, refl, sym, ◌∙◌, ap, subst, arith, if◌then◌else◌, Option, Some, None, inl, inr}
+use Rattle.std.proofs.Common.{◌≡◌, ℕ, zero, suc, ◌+◌, ◌-◌, ◌*◌, ◌/◌, ◌%◌, ◌<◌, ◌≤◌, Bool, true, false, not, nat_le, nat_lt, List, get_or}
+use Rattle.std.proofs.Common.{refl, sym, ◌∙◌, ap, subst, arith, if◌then◌else◌, Option, Some, None, inl, inr}
 use Rattle.std.specs.Option.{option_map_or}
 use Rattle.std.proofs.lemmas.Bool.{and_parts, leb-true, ltb-true, not-false}
 use Rattle.mx_words.specs.declared.perm.Perm.{Perm}
@@ -23,7 +24,8 @@ use Rattle.mx_laws.specs.Twins.{AreTwins}
 use Rattle.mx_laws.proofs.Walk.{SameReadings, other}
 
 -- permissions by address
-perm-in : (r q : Reads) (d : ℕ) (o : Option ℕ) → ((i : ℕ) → r.perm d i ≡ q.perm d i) → option_map_or (r.perm d) o P.None ≡ option_map_or (q.perm d) o P.None
+perm-in : (r q : Reads) (d : ℕ) (o : Option ℕ) → ((i : ℕ) → r.perm d i ≡ q.perm d i)
+    → option_map_or (r.perm d) o P.None ≡ option_map_or (q.perm d) o P.None
 perm-in r q d None m = refl
 perm-in r q d (Some w) m = m w
 
@@ -55,13 +57,15 @@ pub record IsAllowed (r : Reads) (c : Core) (d address : ℕ) (access : Access) 
   pub right : allows (r.perm d ((address - ram_base) / 4)) access ≡ true
 
 allowed-word : (r : Reads) (c : Core) (d address : ℕ) (access : Access) (b : Bool) → in_ram address c.size ≡ b →
-    not (allows (option_map_or (r.perm d) (if b then Some ((address - ram_base) / 4) else None) P.None) access) ≡ false → IsAllowed r c d address access
+    not (allows (option_map_or (r.perm d) (if b then Some ((address - ram_base) / 4) else None) P.None) access) ≡ false
+    → IsAllowed r c d address access
 allowed-word r c d address access true t e =
     let both = and_parts (nat_le ram_base address) (nat_lt (address - ram_base) (4 * c.size)) t in
     record { low = leb-true ram_base address both.0; high = ltb-true (address - ram_base) (4 * c.size) both.1; right = not-false _ e }
 allowed-word r c d address access false t e = absurd (let q : ⊥ = cc in q)
 
-pub allowed-if : (r : Reads) (c : Core) (d address : ℕ) (access : Access) → is_denied r c d address access ≡ false → IsAllowed r c d address access
+pub allowed-if : (r : Reads) (c : Core) (d address : ℕ) (access : Access) → is_denied r c d address access ≡ false
+    → IsAllowed r c d address access
 allowed-if r c d address access e = allowed-word r c d address access (in_ram address c.size) refl e
 
 -- whatever is allowed, a read is
@@ -72,7 +76,8 @@ read-allowed P.ReadWrite access e = refl
 read-allowed P.ExecuteRead access e = refl
 
 -- numbers of the same bytes
-number-same : (size : ℕ) (xs ys : List ℕ) (k : ℕ) → ((j : ℕ) → j < size → get_or xs (k + j) 0 ≡ get_or ys (k + j) 0) → number_at xs k size ≡ number_at ys k size
+number-same : (size : ℕ) (xs ys : List ℕ) (k : ℕ) → ((j : ℕ) → j < size → get_or xs (k + j) 0 ≡ get_or ys (k + j) 0)
+    → number_at xs k size ≡ number_at ys k size
 unfolding number_at
 number-same zero xs ys k p = refl
 number-same (suc size) xs ys k p =
@@ -94,7 +99,8 @@ by-fields x y rs p d =
 
 -- the readings of a hart on which two states agree
 module _ (r : Reads) (c : Core) (q : Reads) (e : Core) (h : ℕ) (t : AreTwins r c q e h) where
-  load-same : (address size : ℕ) (access : Access) → IsSize size → address % size ≡ 0 → is_denied r c (hart_at c h).domain address access ≡ false →
+  load-same : (address size : ℕ) (access : Access) → IsSize size → address % size ≡ 0
+      → is_denied r c (hart_at c h).domain address access ≡ false →
       load_at c address size ≡ load_at e address size
   load-same address size access s a n =
       let d = (hart_at c h).domain in
@@ -120,7 +126,8 @@ module _ (r : Reads) (c : Core) (q : Reads) (e : Core) (h : ℕ) (t : AreTwins r
     dead = t.agreement.same_death;
     gate = call_gate-same c e (hart_at c h).domain (hart_at c h).pc t.words t.agreement.same_gates;
     back = is_return-same c e (hart_at c h).domain (hart_at c h).pc t.words t.agreement.same_gates;
-    denied = λ address access. ap (λ (p : Perm). not (allows p access)) (perm-same r c q e (hart_at c h).domain address t.words t.agreement.same_map);
+    denied = λ address access. ap (λ (p : Perm). not (allows p access))
+        (perm-same r c q e (hart_at c h).domain address t.words t.agreement.same_map);
     fetch = λ n. load-same (hart_at c h).pc 4 A.Execute (inr (inr refl)) t.aligned n;
     load = λ address width a n. load-same address (load_size width) A.Read (width-size width) a n;
   }

@@ -27,7 +27,10 @@ running : stands plain ≡ Some addi
 unfolding decoded number_at imm_i extended
 running = refl
 
-waiting : stands (with_hart (λ x. record x { status = Waiting (record { number = 3; args = 0 ∷ 0 ∷ 0 ∷ 0 ∷ []; hart = 0; domain = 1; nested = true }) [] })) ≡ Some addi
+waiting : stands (with_hart (λ x. record x {
+  status = Waiting
+      (record { number = 3; args = 0 ∷ 0 ∷ 0 ∷ 0 ∷ []; hart = 0; domain = 1; nested = true }) [];
+})) ≡ Some addi
 unfolding decoded number_at imm_i extended
 waiting = refl
 

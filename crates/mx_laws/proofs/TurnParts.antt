@@ -1,6 +1,8 @@
--- A turn of hart h is one action, done in a state that differs from the one before in the number of turns, in caches and in what the other harts'
+-- A turn of hart h is one action, done in a state that differs from the one before in the number of turns, in caches and in what the other
+-- harts'
 -- calls have been heard by.
-use Rattle.std.proofs.Common.{◌≡◌, ℕ, ◌+◌, ◌<◌, ◌≤◌, Bool, true, false, cond, ◌==◌, nat_lt, List, length, get_or, refl, sym, ◌∙◌, ap, subst, zero-add, if◌then◌else◌}
+use Rattle.std.proofs.Common.{◌≡◌, ℕ, ◌+◌, ◌<◌, ◌≤◌, Bool, true, false, cond, ◌==◌, nat_lt, List, length, get_or, refl, sym, ◌∙◌, ap, subst}
+use Rattle.std.proofs.Common.{zero-add, if◌then◌else◌}
 use Rattle.std.proofs.Common.{map as list_map}
 use Rattle.std.specs.List.{enumerate_from}
 use Rattle.std.proofs.Math.ListN.{get_or-eq_default}
@@ -50,7 +52,8 @@ hart-hearing : (h g : ℕ) (harts : List Hart) → g < length harts →
 hart-hearing h g harts l =
     let e : get_or (enumerate_from 0 harts) g (0, no_hart) ≡ (g, get_or harts g no_hart) =
     get_or-enumerate_from 0 harts g (0, no_hart) l ∙ ap (λ (n : ℕ). (n, get_or harts g no_hart)) (zero-add g) in
-    get_or-map (hearing h) (enumerate_from 0 harts) g (0, no_hart) no_hart (subst (λ (n : ℕ). g < n) (sym (length-enumerate_from 0 harts)) l)
+    get_or-map (hearing h) (enumerate_from 0 harts) g (0, no_hart) no_hart
+    (subst (λ (n : ℕ). g < n) (sym (length-enumerate_from 0 harts)) l)
     ∙ ap (hearing h) e
 
 count-hearing : (h : ℕ) (harts : List Hart) → length (list_map (hearing h) (enumerate_from 0 harts)) ≡ length harts
@@ -68,14 +71,15 @@ heard-self h harts = record { count = refl; own = refl; others = λ g. alike-sel
 -- a fact of harts that are there and of one that isn't
 by-place : (g : ℕ) (old new : List Hart) (P : Hart → Hart → Type 0) → length new ≡ length old →
     (g < length old → P (get_or old g no_hart) (get_or new g no_hart)) → P no_hart no_hart → P (get_or old g no_hart) (get_or new g no_hart)
-by-place g old new P e p q = elim (nat_lt g (length old)) as (λ b. nat_lt g (length old) ≡ b → P (get_or old g no_hart) (get_or new g no_hart)) [
-  | true ↦ λ t. p (ltb-true g (length old) t)
-  | false ↦ λ t.
-      let l : length old ≤ g = ltb-false g (length old) t in
-      let m : length new ≤ g = subst (λ (n : ℕ). n ≤ g) (sym e) l in
-      subst (λ (y : Hart). P (get_or old g no_hart) y) (sym (get_or-eq_default new no_hart m))
-      (subst (λ (x : Hart). P x no_hart) (sym (get_or-eq_default old no_hart l)) q)
-] refl
+by-place g old new P e p q = elim (nat_lt g (length old)) as (λ b. nat_lt g (length old) ≡ b
+    → P (get_or old g no_hart) (get_or new g no_hart)) [
+      | true ↦ λ t. p (ltb-true g (length old) t)
+      | false ↦ λ t.
+          let l : length old ≤ g = ltb-false g (length old) t in
+          let m : length new ≤ g = subst (λ (n : ℕ). n ≤ g) (sym e) l in
+          subst (λ (y : Hart). P (get_or old g no_hart) y) (sym (get_or-eq_default new no_hart m))
+          (subst (λ (x : Hart). P x no_hart) (sym (get_or-eq_default old no_hart l)) q)
+    ] refl
 
 heard-hearing : (h : ℕ) (harts : List Hart) → HaveHeard h harts (list_map (hearing h) (enumerate_from 0 harts))
 heard-hearing h harts = record {
@@ -83,7 +87,8 @@ heard-hearing h harts = record {
   own = by-place h harts (list_map (hearing h) (enumerate_from 0 harts)) (λ x y. y ≡ x) (count-hearing h harts)
       (λ l. hart-hearing h h harts l ∙ own-hearing h (get_or harts h no_hart)) refl;
   others = λ g. by-place g harts (list_map (hearing h) (enumerate_from 0 harts)) IsAlike (count-hearing h harts)
-      (λ l. subst (IsAlike (get_or harts g no_hart)) (sym (hart-hearing h g harts l)) (alike-hearing h g (get_or harts g no_hart))) (alike-self no_hart);
+      (λ l. subst (IsAlike (get_or harts g no_hart)) (sym (hart-hearing h g harts l)) (alike-hearing h g (get_or harts g no_hart)))
+      (alike-self no_hart);
 }
 
 -- a state with another number of turns, other harts and other caches
@@ -98,7 +103,8 @@ pub record TurnsBy (r : Reads) (c : Core) (h : ℕ) : Type 0 where
   pub after : List Cache
   pub heard : HaveHeard h c.harts harts
   pub is : turned r c h ≡
-      acted r (apart c turns harts after) h (hart_at c h) (by_status r (apart c turns harts before) h (hart_at c h) (hart_at c h).status).action
+      acted r (apart c turns harts after) h (hart_at c h) (by_status r (apart c turns harts before) h (hart_at c h)
+      (hart_at c h).status).action
 
 -- what hart h does in a state in which it has heard the others' calls
 by-parts : (r : Reads) (c : Core) (h turns : ℕ) (harts : List Hart) (caches : List Cache) → HaveHeard h c.harts harts →

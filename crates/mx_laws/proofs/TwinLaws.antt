@@ -1,5 +1,6 @@
 -- Twin turns: one border, one store, and agreement afterwards.
-use Rattle.std.proofs.Common.{◌≡◌, ◌≢◌, ◌↔◌, ℕ, ◌-◌, ◌<◌, ◌≤◌, Bool, true, false, List, length, get_or, set, refl, sym, ◌∙◌, ap, subst, arith, lit≤, if◌then◌else◌, None, ⊎_elim}
+use Rattle.std.proofs.Common.{◌≡◌, ◌≢◌, ◌↔◌, ℕ, ◌-◌, ◌<◌, ◌≤◌, Bool, true, false, List, length, get_or, set, refl, sym, ◌∙◌, ap, subst}
+use Rattle.std.proofs.Common.{arith, lit≤, if◌then◌else◌, None, ⊎_elim}
 use Rattle.std.proofs.lemmas.List.{get_or-set_same, get_or-set_other}
 use Rattle.mx_words.specs.Bytes.{put_at, IsSize}
 use Rattle.mx_words.specs.Caches.{Cache}
@@ -12,7 +13,8 @@ use Rattle.mx_model.specs.Checks.{is_halted, is_ready}
 use Rattle.mx_model.specs.Effect.{next}
 use Rattle.mx_model.specs.Reads.{Reads}
 use Rattle.mx_model.specs.State.{Core, Hart, Status, Running, Waiting, Halted, no_hart, hart_at, module_at}
-use Rattle.mx_model.specs.Turn.{Action, Rests, Waits, Serves, Asks, Traps, Bounces, Crosses, Returns, Runs, Writes, Made, acted, asked, by_status, is_served_now, runs_in, turned}
+use Rattle.mx_model.specs.Turn.{Action, Rests, Waits, Serves, Asks, Traps, Bounces, Crosses, Returns, Runs, Writes, Made, acted, asked}
+use Rattle.mx_model.specs.Turn.{by_status, is_served_now, runs_in, turned}
 use Rattle.mx_laws.specs.Twins.{IsRunning, AreTwins, AreFreeTwins, Store, stored, MakeOneStore}
 use Rattle.mx_laws.proofs.Walk.{same-self, Leaves, IsPassing, Stopped, SentBack, Passed, IsReturning, Refused, Returned, walk}
 use Rattle.mx_laws.proofs.TurnParts.{IsAlike, TurnsBy, apart, by-action, there}
@@ -46,11 +48,19 @@ returning-stops x a (Refused cause value) q = q
 returning-stops x a (Returned rd frame p) q = q
 
 size-few : (size : ℕ) → IsSize size → size ≤ 4
-size-few size s = ⊎_elim (λ e. let q : size ≤ 4 = omega (arith, e) in q) (⊎_elim (λ e. let q : size ≤ 4 = omega (arith, e) in q) (λ e. let q : size ≤ 4 = omega (arith, e) in q)) s
+size-few size s = ⊎_elim (λ e. let q : size ≤ 4 = omega (arith, e) in q)
+    (⊎_elim (λ e. let q : size ≤ 4 = omega (arith, e) in q) (λ e. let q : size ≤ 4 = omega (arith, e) in q)) s
 
 -- a border that isn't nothing
 stopped : (k : Border) (a b : Action) → (k ≡ Nothing → ⊥) → (IsRun a → ⊥) → AreOne k a k b
-stopped k a b n m = record { border = refl; same = λ e. absurd (n e); runs = λ e. absurd (n e); only = λ p. absurd (m p); few = λ e. absurd (n e) }
+stopped k a b n m = record {
+  border = refl;
+  same = λ e. absurd (n e);
+  runs = λ e. absurd (n e);
+  only = λ p. absurd (m p);
+  few = λ e.
+      absurd (n e);
+}
 
 one-leaves : (r : Reads) (c : Core) (h : ℕ) (x : Hart) (fs : List Frame) (st : Status) → Leaves r c h x fs st AreOne
 one-leaves r c h x fs st = record {
@@ -59,7 +69,14 @@ one-leaves r c h x fs st = record {
   back = λ target a b p q. stopped _ a b (λ e. let q : ⊥ = cc in q) (returning-stops x a p);
   call = stopped _ _ _ (λ e. let q : ⊥ = cc in q) (λ p. p);
   run = λ regs pc. record { border = refl; same = λ e. refl; runs = λ e. tt; only = λ p. refl; few = λ e. lit≤ tt };
-  write = λ address size value s a n. record { border = refl; same = λ e. refl; runs = λ e. tt; only = λ p. refl; few = λ e. size-few size s };
+  write = λ address size value s a n. record {
+    border = refl;
+    same = λ e. refl;
+    runs = λ e. tt;
+    only = λ p. refl;
+    few = λ e.
+        size-few size s;
+  };
 }
 
 -- what a running hart does in a state
@@ -73,8 +90,10 @@ border_at r c x = border_in r c x (module_at c x.domain).dead
 one-twins : (r : Reads) (c : Core) (q : Reads) (e : Core) (h : ℕ) → AreTwins r c q e h →
     AreOne (border r c h) (action_in r c h (hart_at c h)) (border q e h) (action_in q e h (hart_at e h))
 one-twins r c q e h t =
-    subst (λ (y : Hart). AreOne (border r c h) (action_in r c h (hart_at c h)) (border_at q e y) (action_in q e h y)) (sym (other-hart r c q e h t))
-    (walk r c q e h (hart_at c h) (hart_at e h).frames (hart_at e h).status AreOne (same-readings r c q e h t) (one-leaves r c h (hart_at c h) (hart_at e h).frames (hart_at e h).status))
+    subst (λ (y : Hart). AreOne (border r c h) (action_in r c h (hart_at c h)) (border_at q e y) (action_in q e h y))
+    (sym (other-hart r c q e h t))
+    (walk r c q e h (hart_at c h) (hart_at e h).frames (hart_at e h).status AreOne (same-readings r c q e h t)
+    (one-leaves r c h (hart_at c h) (hart_at e h).frames (hart_at e h).status))
 
 pub border-twins : (r q : Reads) (c e : Core) (h : ℕ) → AreTwins r c q e h → border r c h ≡ border q e h
 border-twins r q c e h t = (one-twins r c q e h t).border
@@ -106,9 +125,11 @@ kind-acted r c h x (Writes address size value) = (λ e. tt, λ p. refl)
 
 -- what a running hart's turn is: the action decided, done in a state that differs in turns, harts and caches
 turned-running : (r : Reads) (c : Core) (h : ℕ) (t : TurnsBy r c h) → IsRunning c h →
-    turned r c h ≡ acted r (apart c t.turns t.harts t.after) h (hart_at c h) (action_in r (apart c t.turns t.harts t.before) h (hart_at c h))
+    turned r c h ≡ acted r (apart c t.turns t.harts t.after) h (hart_at c h)
+    (action_in r (apart c t.turns t.harts t.before) h (hart_at c h))
 turned-running r c h t e =
-    t.is ∙ ap (λ (s : Status). acted r (apart c t.turns t.harts t.after) h (hart_at c h) (by_status r (apart c t.turns t.harts t.before) h (hart_at c h) s).action) e
+    t.is ∙ ap (λ (s : Status). acted r (apart c t.turns t.harts t.after) h (hart_at c h)
+    (by_status r (apart c t.turns t.harts t.before) h (hart_at c h) s).action) e
 
 pub ran-free : (r : Reads) (c : Core) (h : ℕ) → IsRunning c h → ((turned r c h).kind ≡ T.Ran) ↔ (border r c h ≡ Nothing)
 ran-free r c h e =
@@ -142,7 +163,8 @@ returning-busy : (x : Hart) (a : Action) → IsReturning x a → a ≡ Rests →
 returning-busy x a (Refused cause value) e = let q : ⊥ = cc in q
 returning-busy x a (Returned rd frame p) e = let q : ⊥ = cc in q
 
-busy-leaves : (r : Reads) (c : Core) (h : ℕ) (x : Hart) → Leaves r c h x x.frames x.status (λ (k : Border) (a : Action) (l : Border) (b : Action). a ≡ Rests → ⊥)
+busy-leaves : (r : Reads) (c : Core) (h : ℕ) (x : Hart) → Leaves r c h x x.frames x.status
+    (λ (k : Border) (a : Action) (l : Border) (b : Action). a ≡ Rests → ⊥)
 busy-leaves r c h x = record {
   trap = λ cause value e. let q : ⊥ = cc in q;
   gate = λ word target x1 a b p q. passing-busy a p;
@@ -157,7 +179,8 @@ busy-waiting call true e = let q : ⊥ = cc in q
 busy-waiting call false e = let q : ⊥ = cc in q
 
 rests-ended : (r : Reads) (c : Core) (h : ℕ) (x : Hart) (s : Status) → (by_status r c h x s).action ≡ Rests → standing s ≡ Ended
-rests-ended r c h x Running e = absurd (walk r c r c h x x.frames x.status (λ k a l b. a ≡ Rests → ⊥) (same-self r c x) (busy-leaves r c h x) e)
+rests-ended r c h x Running e = absurd (walk r c r c h x x.frames x.status (λ k a l b. a ≡ Rests
+    → ⊥) (same-self r c x) (busy-leaves r c h x) e)
 rests-ended r c h x (Waiting call heard) e = absurd (busy-waiting call (is_ready c h heard) e)
 rests-ended r c h x (Halted code) e = refl
 
@@ -246,20 +269,23 @@ left-free r c h e k p =
       own = ap (λ (hs : List Hart). get_or hs h no_hart) harts
           ∙ get_or-set_same t.harts h (hart_then x a) no_hart (subst (λ (n : ℕ). h < n) (sym t.heard.count) l);
       others = λ g n. subst (IsAlike (hart_at c g))
-          (sym (ap (λ (hs : List Hart). get_or hs g no_hart) harts ∙ get_or-set_other t.harts h g (hart_then x a) no_hart n)) (t.heard.others g);
+          (sym (ap (λ (hs : List Hart). get_or hs g no_hart) harts ∙ get_or-set_other t.harts h g (hart_then x a) no_hart n))
+          (t.heard.others g);
     }
 
 -- twins whose hart meets no border
-pub left-twin : (r : Reads) (c : Core) (q : Reads) (e : Core) (h : ℕ) → AreFreeTwins r c q e h → IsLeftFree r c h (action_in r c h (hart_at c h))
+pub left-twin : (r : Reads) (c : Core) (q : Reads) (e : Core) (h : ℕ) → AreFreeTwins r c q e h
+    → IsLeftFree r c h (action_in r c h (hart_at c h))
 left-twin r c q e h t = left-free r c h t.running t.free ((one-twins r c q e h t.twins).runs t.free)
 
 -- the hart of the second state runs too
-standing-running : (s t : Status) → s ≡ Running → standing s ≡ standing t → t ≡ Running
+pub standing-running : (s t : Status) → s ≡ Running → standing s ≡ standing t → t ≡ Running
 standing-running s Running e f = refl
 standing-running s (Waiting call heard) e f = absurd (let k = ap standing e in let q : ⊥ = cc in q)
 standing-running s (Halted code) e f = absurd (let k = ap standing e in let q : ⊥ = cc in q)
 
-pub left-other : (r : Reads) (c : Core) (q : Reads) (e : Core) (h : ℕ) → AreFreeTwins r c q e h → IsLeftFree q e h (action_in r c h (hart_at c h))
+pub left-other : (r : Reads) (c : Core) (q : Reads) (e : Core) (h : ℕ) → AreFreeTwins r c q e h
+    → IsLeftFree q e h (action_in r c h (hart_at c h))
 left-other r c q e h t =
     let one = one-twins r c q e h t.twins in
     let same = one.same t.free in

@@ -27,7 +27,8 @@ IsZero e w = (k : ℕ) → k < 4 → slice_index e.ram (4 * w + k) ≡ 0
 abbrev pub heap_of : Core → ℕ → Area
 heap_of c h = (module_at c (domain_at c h)).heap
 
--- hart h asked for a block by its x17 and x10 and got it: the blocks of its domain are one more, the block lies in the heap area and is zero, and
+-- hart h asked for a block by its x17 and x10 and got it: the blocks of its domain are one more, the block lies in the heap area and is
+-- zero, and
 -- each other word that the domain may not write is kept
 pub record TakesBlock (r : Reads) (c : Core) (h : ℕ) (e : Core) : Type 0 where
   pub call : service (reg (hart_at c h).regs 17) ≡ Alloc

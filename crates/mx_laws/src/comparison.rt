@@ -7,7 +7,8 @@ ghost use Rattle.mx_model.specs.State.{Core, State, Flat};
 ghost use Rattle.mx_model.specs.Valid.{IsFlat};
 ghost use Rattle.mx_laws.specs.Comparison.{AreFit, IsBounded, agrees};
 
-/// The test is true exactly where two states of as many words of RAM agree for a hart, if no domain has a right outside RAM. None has in
+/// The test is true exactly where two states of as many words of RAM agree for a hart, if no domain has a right outside
+/// RAM. None has in
 /// a state, and none in a valid flat state.
 pub fn agreement_is_a_test()
     ensures test { (r q : Reads) (c e : Core) (h : ℕ) → AreFit r c q e →

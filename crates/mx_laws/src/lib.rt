@@ -1,4 +1,5 @@
-//! Laws of the abstract machine's turns, each the contract of a function that does nothing: what a module can see and change.
+//! Laws of the abstract machine's turns, each the contract of a function that does nothing: what a module can see and
+//! change.
 #![tactic(auto)]
 
 mod comparison;

@@ -5,7 +5,8 @@ ghost use Rattle.mx_model.specs.Run.{flat_kind, flat_turn, kind, turn};
 ghost use Rattle.mx_model.specs.State.{State, Flat, Core};
 ghost use Rattle.mx_model.specs.Turn.{turned};
 ghost use Rattle.mx_laws.specs.After.{core_after, kind_of};
-ghost use Rattle.mx_laws.specs.Quiet.{AddedNothing, AddsNothing, AreQuiet, IsLeftByRow, SameEnd, SameRights, SameStandings, may_tell, row};
+ghost use Rattle.mx_laws.specs.Quiet.{AddedNothing, AddsNothing, AreQuiet, IsLeftByRow, SameEnd, SameRights};
+ghost use Rattle.mx_laws.specs.Quiet.{SameStandings, may_tell, row};
 
 /// Quiet turns. A turn that is neither `Trapped` nor `Called` changes no right and no owner and adds no console byte
 /// and no note, in states and in flat states; each hart runs, waits or is halted after it as before, so all are halted

@@ -6,7 +6,8 @@ use Rattle.std.proofs.lemmas.Bool.{and_from, or_from}
 use Rattle.std.proofs.lemmas.List.{take_all}
 
 -- none of the elements before a place passes, and neither does the one there
-pub any-next : {X : Type 0} (f : X → Bool) (xs : List X) (i : ℕ) (d : X) → i < length xs → list_any f (take i xs) ≡ false → f (get_or xs i d) ≡ false →
+pub any-next : {X : Type 0} (f : X → Bool) (xs : List X) (i : ℕ) (d : X) → i < length xs → list_any f (take i xs) ≡ false
+    → f (get_or xs i d) ≡ false →
     list_any f (take (i + 1) xs) ≡ false
 any-next f xs i d l e n = list_any_more f xs i d l ∙ or_from (list_any f (take i xs)) (f (get_or xs i d)) e n
 
@@ -15,7 +16,8 @@ pub any-none : {X : Type 0} (f : X → Bool) (xs : List X) (i : ℕ) → length 
 any-none f xs i l e = ap (list_any f) (sym (take_all i xs l)) ∙ e
 
 -- the same for a test that all elements pass
-pub all-next : {X : Type 0} (f : X → Bool) (xs : List X) (i : ℕ) (d : X) → i < length xs → list_all f (take i xs) ≡ true → f (get_or xs i d) ≡ true →
+pub all-next : {X : Type 0} (f : X → Bool) (xs : List X) (i : ℕ) (d : X) → i < length xs → list_all f (take i xs) ≡ true
+    → f (get_or xs i d) ≡ true →
     list_all f (take (i + 1) xs) ≡ true
 all-next f xs i d l e n = list_all_more f xs i d l ∙ and_from (list_all f (take i xs)) (f (get_or xs i d)) e n
 

@@ -36,7 +36,8 @@ pub call-is : (m : Held) (h : ℕ) → MayRun m h → call_of h (hart_in m h) �
 call-is m h r = ap (call_of h) (seen-running m h r)
 
 -- a call that isn't announced is served
-pub serving-plain : (m : Held) (h : ℕ) → MayRun m h → is_announced (own_call h (hart_among m.harts h)).number ≡ false → IsServing m h (own_call h (hart_among m.harts h))
+pub serving-plain : (m : Held) (h : ℕ) → MayRun m h → is_announced (own_call h (hart_among m.harts h)).number ≡ false
+    → IsServing m h (own_call h (hart_among m.harts h))
 serving-plain m h r e = search (arith, may-look, bars-alike, r.act.fits.count, r.act.fits.ties, running-kept)
 
 -- a waiting hart's call that is ready
@@ -44,7 +45,8 @@ flying-range : (range : ℕ × ℕ) (o : Option Flight) → IsFlying range o →
 flying-range range None e = absurd e
 flying-range range (Some f) e = (e.first, e.count)
 
-pub serving-waiting : (m : Held) (h : ℕ) → MayAct m h → (hart_among m.harts h).progress ≡ G.Waiting → is_announced (own_call h (hart_among m.harts h)).number ≡ true →
+pub serving-waiting : (m : Held) (h : ℕ) → MayAct m h → (hart_among m.harts h).progress ≡ G.Waiting
+    → is_announced (own_call h (hart_among m.harts h)).number ≡ true →
     is_ready h m.parts.harts ≡ true → IsServing m h (own_call h (hart_among m.harts h))
 serving-waiting m h a w n e =
     search (arith, m.harts, m.parts.harts, m.parts, a.fits.ties, kept-there, flying-range, bars-alike, a.fits.count)
@@ -55,7 +57,8 @@ module _ (m : Held) (h : ℕ) (r : MayRun m h) where
   range_now = range_of m.parts (own_call h (hart_among m.harts h))
 
   abbrev pub now_announced : Held
-  now_announced = with_kept h (announced h (range_of m.parts (own_call h (hart_among m.harts h))).0 (range_of m.parts (own_call h (hart_among m.harts h))).1) m
+  now_announced = with_kept h (announced h (range_of m.parts (own_call h (hart_among m.harts h))).0
+      (range_of m.parts (own_call h (hart_among m.harts h))).1) m
 
   own-announced : kept_at now_announced.parts.harts h ≡ announced h range_now.0 range_now.1 (kept_at m.parts.harts h)
   own-announced = own-step m.parts.harts h (announced h range_now.0 range_now.1) (kept-there m h r.act)
@@ -64,7 +67,8 @@ module _ (m : Held) (h : ℕ) (r : MayRun m h) where
   others-announced i ne = others-step m.parts.harts h (announced h range_now.0 range_now.1) i ne
 
   tied-others : (i : ℕ) → i ≢ h → IsTied (range_of m.parts) i (hart_among m.harts i) (kept_at now_announced.parts.harts i)
-  tied-others i ne = subst (λ (k : Kept). IsTied (range_of m.parts) i (hart_among m.harts i) k) (sym (others-announced i ne)) (r.act.fits.ties i)
+  tied-others i ne = subst (λ (k : Kept). IsTied (range_of m.parts) i (hart_among m.harts i) k) (sym (others-announced i ne))
+      (r.act.fits.ties i)
 
   pub serving-announced : is_announced (own_call h (hart_among m.harts h)).number ≡ true → is_ready h now_announced.parts.harts ≡ true →
       IsServing now_announced h (own_call h (hart_among m.harts h))
@@ -84,7 +88,8 @@ module _ (m : Held) (h : ℕ) (r : MayRun m h) where
           announced = λ q. record {
             hart = subst (λ k. h < k) (sym count) (kept-there m h r.act);
             ready = e;
-            range = subst (λ (k : Kept). IfSome k.flight (λ f. (f.first ≡ range_now.0) × (f.count ≡ range_now.1))) (sym own-announced) (refl, refl);
+            range = subst (λ (k : Kept). IfSome k.flight (λ f. (f.first ≡ range_now.0) × (f.count ≡ range_now.1))) (sym own-announced)
+                (refl, refl);
           };
           other = λ q. absurd (let z : ⊥ = cc in z);
         };
@@ -128,11 +133,13 @@ module _ (m : Held) (h : ℕ) (r : MayRun m h) where
       } in
       fits-change m h (waits x) now_announced.parts.harts m.parts.ram m.dead true c
 
-  waiting-core : core_in now_waiting ≡ with_hart h (record (hart_in m h) { status = Waiting (own_call h (hart_among m.harts h)) nobody }) (core_in m)
+  waiting-core : core_in now_waiting ≡ with_hart h (record (hart_in m h) { status = Waiting (own_call h (hart_among m.harts h)) nobody })
+      (core_in m)
   waiting-core =
       let x = hart_among m.harts h in
       core-step m h (waits x) now_announced.parts (λ i ne. ap (λ (k : Kept). k.flight) (others-announced i ne))
-      ∙ ap (with_hart h (seen h (waits x) (kept_at now_announced.parts.harts h))) (core-kept (rest_of m) m.parts h (announced h range_now.0 range_now.1) refl)
+      ∙ ap (with_hart h (seen h (waits x) (kept_at now_announced.parts.harts h)))
+      (core-kept (rest_of m) m.parts h (announced h range_now.0 range_now.1) refl)
       ∙ ap (λ (k : Kept). with_hart h (seen h (waits x) k) (core_in m)) own-announced
       ∙ sym (ap (λ (y : Seen). with_hart h (record y { status = Waiting (own_call h x) nobody }) (core_in m)) (seen-running m h r))
 
@@ -152,12 +159,14 @@ module _ (m : Held) (h : ℕ) (r : MayRun m h) where
       (record { core = waiting-core; maps = refl; owners = refl; console = refl; note = refl; kind = refl })
 
   -- served at once, announced or not
-  pub made-served : (b c : Bool) → is_announced (own_call h (hart_among m.harts h)).number ≡ b → is_ready h now_announced.parts.harts ≡ c → (not b || c) ≡ true →
+  pub made-served : (b c : Bool) → is_announced (own_call h (hart_among m.harts h)).number ≡ b → is_ready h now_announced.parts.harts ≡ c
+      → (not b || c) ≡ true →
       made_by m h (Asks (call_of h (hart_in m h))) ≡ served (reads_of m) (core_in m) h (hart_in m h) (own_call h (hart_among m.harts h))
   made-served b c eb ec t = asks-as true (served-if b c eb ec ∙ t)
 
   -- from the machine in which the call was announced
   pub from-announced : (n : Held) (events : Events) →
-      IsMade now_announced n events T.Called (served (reads_of now_announced) (core_in now_announced) h (hart_in now_announced h) (own_call h (hart_among m.harts h))) →
+      IsMade now_announced n events T.Called (served (reads_of now_announced) (core_in now_announced) h (hart_in now_announced h)
+      (own_call h (hart_among m.harts h))) →
       IsMade m n events T.Called (served (reads_of m) (core_in m) h (hart_in m h) (own_call h (hart_among m.harts h)))
   from-announced n events i = grind (arith, m.harts, core-announced)

@@ -20,7 +20,8 @@ use Rattle.mx_machine.proofs.AskLaws.{from-announced, made-served, now_announced
 use Rattle.mx_machine.proofs.MadeLaws.{kept-there, running-free, running-kept}
 
 -- what is made is made of equal machines, with equal events, and is an equal thing
-pub made-moved : (m n n' : Held) (e e' : Events) (k : TurnKind) (d d' : Made) → n ≡ n' → e ≡ e' → d ≡ d' → IsMade m n e k d → IsMade m n' e' k d'
+pub made-moved : (m n n' : Held) (e e' : Events) (k : TurnKind) (d d' : Made) → n ≡ n' → e ≡ e' → d ≡ d' → IsMade m n e k d
+    → IsMade m n' e' k d'
 made-moved m n n' e e' k d d' p q r i = search arith
 
 pub may-announce : (m : Held) (h : ℕ) → MayRun m h → MayAnnounce h m.parts.harts
@@ -32,7 +33,8 @@ pub announced-call : (m : Held) (h : ℕ) (call : Call) (r : MayRun m h) → cal
 announced-call m h call r e = ap (λ (k : Call). with_kept h (announced h (range_of m.parts k).0 (range_of m.parts k).1) m) e
 
 -- a call that was announced and is ready
-module _ (m s : Held) (h : ℕ) (call : Call) (r : MayRun m h) (own : call ≡ own_call h (hart_among m.harts h)) (now : s ≡ now_announced m h r)
+module _ (m s : Held) (h : ℕ) (call : Call) (r : MayRun m h) (own : call ≡ own_call h (hart_among m.harts h))
+    (now : s ≡ now_announced m h r)
     (must : is_announced call.number ≡ true) (ready : is_ready h s.parts.harts ≡ true) where
   must' : is_announced (own_call h (hart_among m.harts h)).number ≡ true
   must' = ap (λ (k : Call). is_announced k.number) (sym own) ∙ must
@@ -52,7 +54,8 @@ module _ (m s : Held) (h : ℕ) (call : Call) (r : MayRun m h) (own : call ≡ o
       (subst (λ (k : Call). IsMade s n e T.Called (served (reads_of s) (core_in s) h (hart_in s h) k)) own i)))
 
 -- a call that isn't announced
-module _ (m s : Held) (h : ℕ) (call : Call) (r : MayRun m h) (own : call ≡ own_call h (hart_among m.harts h)) (same : s ≡ m) (plain : is_announced call.number ≡ false) where
+module _ (m s : Held) (h : ℕ) (call : Call) (r : MayRun m h) (own : call ≡ own_call h (hart_among m.harts h)) (same : s ≡ m)
+    (plain : is_announced call.number ≡ false) where
   plain' : is_announced (own_call h (hart_among m.harts h)).number ≡ false
   plain' = ap (λ (k : Call). is_announced k.number) (sym own) ∙ plain
 

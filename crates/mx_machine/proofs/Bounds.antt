@@ -25,17 +25,20 @@ most-ge a b c e = omega arith
 pub most-other : (a b c : ℕ) → c ≡ max a b → b ≤ c
 most-other a b c e = omega arith
 
-pub few-left : (now before ran first room most most_turns : ℕ) → now ≡ before + ran → ran ≡ first → first ≤ room → room < most → before + most < most_turns →
+pub few-left : (now before ran first room most most_turns : ℕ) → now ≡ before + ran → ran ≡ first → first ≤ room → room < most
+    → before + most < most_turns →
     now + (room - first) < most_turns
 few-left now before ran first room most most_turns e all upto below few = omega arith
 
 pub few-last : (now before room most most_turns : ℕ) → now ≡ before + room → room < most → before + most < most_turns → now < most_turns - 1
 few-last now before room most most_turns e below few = omega arith
 
-pub few-rest : (now before made ran room most_turns : ℕ) → now + made ≡ before + ran → made ≤ room → ran ≤ room → before + (room - made) < most_turns → now + (room - ran) < most_turns
+pub few-rest : (now before made ran room most_turns : ℕ) → now + made ≡ before + ran → made ≤ room → ran ≤ room
+    → before + (room - made) < most_turns → now + (room - ran) < most_turns
 few-rest now before made ran room most_turns e upto within few = omega arith
 
-pub few-next : (now before made ran room most_turns : ℕ) → now + made ≡ before + ran → ran < room → before + (room - made) < most_turns → made ≤ room → now < most_turns - 1
+pub few-next : (now before made ran room most_turns : ℕ) → now + made ≡ before + ran → ran < room → before + (room - made) < most_turns
+    → made ≤ room → now < most_turns - 1
 few-next now before made ran room most_turns e below few upto = omega arith
 
 pub counted-on : (old now before made ran n : ℕ) → old + made ≡ before + ran → now ≡ old + n → now + made ≡ before + (ran + n)
@@ -53,7 +56,8 @@ below-but a b le ne = omega arith
 pub one-more : (a b : ℕ) → a < b → a + 1 ≤ b
 one-more a b lt = omega arith
 
-pub few-tally : (now before n turns most most_turns : ℕ) → now + n ≡ before + n → turns ≤ most → before + most < most_turns → now + turns < most_turns
+pub few-tally : (now before n turns most most_turns : ℕ) → now + n ≡ before + n → turns ≤ most → before + most < most_turns
+    → now + turns < most_turns
 few-tally now before n turns most most_turns e upto few = omega arith
 
 pub le-self : (a b : ℕ) → a ≡ b → a ≤ b

@@ -1,5 +1,6 @@
 -- The permissions of a bus are those of its domain's map, and what they allow lies in RAM.
-use Rattle.std.proofs.Common.{◌≡◌, ℕ, ◌+◌, ◌-◌, ◌*◌, ◌/◌, ◌%◌, ◌<◌, ◌≤◌, arith, Bool, true, false, not, cond, nat_lt, nat_le, List, length, refl, sym, ap, subst, ◌∙◌, Some, None}
+use Rattle.std.proofs.Common.{◌≡◌, ℕ, ◌+◌, ◌-◌, ◌*◌, ◌/◌, ◌%◌, ◌<◌, ◌≤◌, arith, Bool, true, false, not, cond, nat_lt, nat_le, List, length}
+use Rattle.std.proofs.Common.{refl, sym, ap, subst, ◌∙◌, Some, None}
 use Rattle.std.specs.Option.{option_map_or}
 use Rattle.std.proofs.lemmas.Bool.{ltb-true, leb-true, and_parts}
 use Rattle.mx_words.specs.declared.perm.Perm.{Perm}
@@ -20,7 +21,8 @@ perm-alike size maps d address p e =
     ap (λ (m : List Perm). option_map_or (perm_at m) (word_of address size) P.None) (map-in size maps d p)
     ∙ ap (λ (n : ℕ). option_map_or (perm_at (map_of maps d)) (word_of address n) P.None) (sym e)
 
-pub answer-alike : (size : ℕ) (maps : List (List Perm)) (d address : ℕ) (access : Access) (b : Bool) → IsDomain maps d → length (map_of maps d) ≡ size →
+pub answer-alike : (size : ℕ) (maps : List (List Perm)) (d address : ℕ) (access : Access) (b : Bool) → IsDomain maps d
+    → length (map_of maps d) ≡ size →
     b ≡ not (denies (perm (map_of maps d)) address access) → not b ≡ denied (perm_from size maps d) address access
 unfolding denied
 answer-alike size maps d address access b p e q =
@@ -28,7 +30,8 @@ answer-alike size maps d address access b p e q =
     ∙ ap (λ (x : Perm). not (allows x access)) (sym (perm-alike size maps d address p e))
 
 -- what a map doesn't deny a bus doesn't either
-pub allowed-alike : (size : ℕ) (maps : List (List Perm)) (d address : ℕ) (access : Access) → IsDomain maps d → length (map_of maps d) ≡ size →
+pub allowed-alike : (size : ℕ) (maps : List (List Perm)) (d address : ℕ) (access : Access) → IsDomain maps d
+    → length (map_of maps d) ≡ size →
     denies (perm (map_of maps d)) address access ≡ false → denied (perm_from size maps d) address access ≡ false
 unfolding denied
 allowed-alike size maps d address access p e q = ap (λ (x : Perm). not (allows x access)) (perm-alike size maps d address p e) ∙ q

@@ -1,5 +1,6 @@
 -- Tests and edits of all harts of a state, from one equation a hart.
-use Rattle.std.proofs.Common.{◌≡◌, ℕ, suc, ◌+◌, Bool, true, false, not, ◌&&◌, ◌||◌, List, [], ◌∷◌, length, get_or, refl, sym, ap, ◌∙◌, arith}
+use Rattle.std.proofs.Common.{◌≡◌, ℕ, suc, ◌+◌, Bool, true, false, not, ◌&&◌, ◌||◌, List, [], ◌∷◌, length, get_or, refl, sym, ap, ◌∙◌}
+use Rattle.std.proofs.Common.{arith}
 use Rattle.std.specs.Prelude.{fold, filter_map, Option, Some, None}
 use Rattle.std.specs.List.{list_all, list_any, enumerate_from, cons_option}
 use Rattle.mx_words.specs.Caches.{Cache, without_range}
@@ -47,7 +48,8 @@ module _ {X : Type 0} (test : ℕ × X → Bool) (low : ℕ → Bool) (d : X) wh
       ∙ ap (λ b. (all_below i low && b) && list_all test (enumerate_from (i + 1) xs)) (sym (of-first (λ k y. test (k, y)) low d i x xs e))
       ∙ and_assoc (all_below i low) (test (i, x)) (list_all test (enumerate_from (i + 1) xs))
 
-any-option : {R : Type 0} (test : R → Bool) (o : Option R) (rs : List R) → list_any test (cons_option o rs) ≡ (some_passes test o || list_any test rs)
+any-option : {R : Type 0} (test : R → Bool) (o : Option R) (rs : List R)
+    → list_any test (cons_option o rs) ≡ (some_passes test o || list_any test rs)
 any-option test None rs = refl
 any-option test (Some r) rs = refl
 
@@ -57,7 +59,8 @@ not-or x b c = grind arith
 -- none of those taken passes where none below their number does
 module _ {X R : Type 0} (take : ℕ × X → Option R) (test : R → Bool) (low : ℕ → Bool) (d : X) where
   pub none-numbered : (i : ℕ) (xs : List X) → ((j : ℕ) → some_passes test (take (i + j, get_or xs j d)) ≡ low (i + j)) →
-      all_below (i + length xs) (λ k. not (low k)) ≡ (all_below i (λ k. not (low k)) && not (list_any test (filter_map take (enumerate_from i xs))))
+      all_below (i + length xs) (λ k. not (low k)) ≡ (all_below i (λ k. not (low k))
+      && not (list_any test (filter_map take (enumerate_from i xs))))
   none-numbered i [] e = below-none i (λ k. not (low k))
   none-numbered i (x ∷ xs) e =
       let rest = list_any test (filter_map take (enumerate_from (i + 1) xs)) in
@@ -71,11 +74,13 @@ module _ {X R : Type 0} (take : ℕ × X → Option R) (test : R → Bool) (low 
 
 -- the cache after all ranges taken, one after another
 without-option : (o : Option (ℕ × ℕ)) (rs : List (ℕ × ℕ)) (c : Cache) →
-    fold (λ cache (r : ℕ × ℕ). without_range r.0 r.1 cache) c (cons_option o rs) ≡ fold (λ cache (r : ℕ × ℕ). without_range r.0 r.1 cache) (without_one o c) rs
+    fold (λ cache (r : ℕ × ℕ). without_range r.0 r.1 cache) c (cons_option o rs)
+    ≡ fold (λ cache (r : ℕ × ℕ). without_range r.0 r.1 cache) (without_one o c) rs
 without-option None rs c = refl
 without-option (Some r) rs c = refl
 
-without-one : (range : ℕ → Option (ℕ × ℕ)) (i : ℕ) (c : Cache) → without_one (range i) (without_first range i c) ≡ without_first range (i + 1) c
+without-one : (range : ℕ → Option (ℕ × ℕ)) (i : ℕ) (c : Cache)
+    → without_one (range i) (without_first range i c) ≡ without_first range (i + 1) c
 without-one range i c = let e : suc i ≡ i + 1 = omega arith in ap (λ k. without_first range k c) e
 
 module _ {X : Type 0} (take : ℕ × X → Option (ℕ × ℕ)) (range : ℕ → Option (ℕ × ℕ)) (d : X) (c : Cache) where

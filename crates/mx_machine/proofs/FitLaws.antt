@@ -31,10 +31,12 @@ pub record IsChange (m : Held) (h : ℕ) (x : Hart) (kept : List Kept) (ram : Li
   pub deads : length dead ≡ 64
   pub quiet : waiting ≡ false → (m.waiting ≡ false) × (is_waiting x.progress ≡ false)
 
-pub sound-changed : (p : Parts) (kept : List Kept) (ram : List ℕ) → IsSound p → length ram ≡ length p.ram → IsSound (record p { harts = kept; ram = ram })
+pub sound-changed : (p : Parts) (kept : List Kept) (ram : List ℕ) → IsSound p → length ram ≡ length p.ram
+    → IsSound (record p { harts = kept; ram = ram })
 sound-changed p kept ram s e = sound-ram (record p { harts = kept }) ram (with-harts p kept s) e
 
-pub fits-change : (m : Held) (h : ℕ) (x : Hart) (kept : List Kept) (ram : List ℕ) (dead : List Bool) (waiting : Bool) → IsChange m h x kept ram dead waiting →
+pub fits-change : (m : Held) (h : ℕ) (x : Hart) (kept : List Kept) (ram : List ℕ) (dead : List Bool) (waiting : Bool)
+    → IsChange m h x kept ram dead waiting →
     Fits (changed m h x kept ram dead waiting)
 fits-change m h x kept ram dead waiting c = record {
   sound = sound-changed m.parts kept ram c.fits.sound c.bytes;
@@ -49,7 +51,8 @@ fits-change m h x kept ram dead waiting c = record {
     tie : (i : ℕ) → (i ≡ h) ⊎ (i ≢ h) → IsTied (range_of m.parts) i (hart_among (set m.harts h x) i) (kept_at kept i)
     tie i (inl e) =
         subst (λ j. IsTied (range_of m.parts) j (hart_among (set m.harts h x) j) (kept_at kept j)) (sym e)
-        (subst (λ (y : Hart). IsTied (range_of m.parts) h y (kept_at kept h)) (sym (get_or-set_same m.harts h x no_held_hart c.there)) c.tied)
+        (subst (λ (y : Hart). IsTied (range_of m.parts) h y (kept_at kept h)) (sym (get_or-set_same m.harts h x no_held_hart c.there))
+        c.tied)
     tie i (inr ne) =
         subst (λ (y : Hart). IsTied (range_of m.parts) i y (kept_at kept i)) (sym (get_or-set_other m.harts h i x no_held_hart ne))
         (subst (λ (k : Kept). IsTied (range_of m.parts) i (hart_among m.harts i) k) (sym (c.others i ne)) (c.fits.ties i))

@@ -1,5 +1,6 @@
 -- Frames of a hart: none is taken off where there is none, and a copy frame by frame.
-use Rattle.std.proofs.Common.{◌≡◌, ℕ, ◌+◌, ◌<◌, ◌≤◌, false, ◌==◌, List, [], ◌∷◌, ◌++◌, length, get_or, take, Option, Some, None, refl, sym, ap, ◌∙◌, arith}
+use Rattle.std.proofs.Common.{◌≡◌, ℕ, ◌+◌, ◌<◌, ◌≤◌, false, ◌==◌, List, [], ◌∷◌, ◌++◌, length, get_or, take, Option, Some, None, refl, sym}
+use Rattle.std.proofs.Common.{ap, ◌∙◌, arith}
 use Rattle.std.specs.List.{last_or}
 use Rattle.std.specs.Prelude.{is_err, OnOk, Result, slice_get}
 use Rattle.std.proofs.lemmas.Bool.{ne_eqb}
@@ -29,14 +30,17 @@ gives-up-none cause x frames none e =
 pub returns-none : (rd : ℕ) (x : Hart) (frames : List Frame) → None ≡ top x.frames → frames ≡ below_top x.frames →
     record x { frames = frames } ≡ returns_over rd x
 returns-none rd x frames none e =
-    ap (λ (fs : List Frame). record x { frames = fs }) (e ∙ none-below x.frames (sym none)) ∙ ap (λ (o : Option Frame). returns_by rd x o) none
+    ap (λ (fs : List Frame). record x { frames = fs }) (e ∙ none-below x.frames (sym none))
+    ∙ ap (λ (o : Option Frame). returns_by rd x o) none
 
 -- one more frame is copied
 ok-pushed : {A B : Type 0} (r : Result A B) (C : Type 0) → is_err r ≡ false → OnOk r C → C
 ok-pushed x x1 e p = grind arith
 
-pub frame-copied : {A B : Type 0} {frame : Frame} (frames copy new : List Frame) (i : ℕ) (r : Result A B) → copy ≡ take i frames → i < length frames →
-    length frames ≤ 64 → Some frame ≡ slice_get frames i → is_err r ≡ (length copy == 64) → OnOk r (new ≡ copy ++ frame ∷ []) → new ≡ take (i + 1) frames
+pub frame-copied : {A B : Type 0} {frame : Frame} (frames copy new : List Frame) (i : ℕ) (r : Result A B) → copy ≡ take i frames
+    → i < length frames →
+    length frames ≤ 64 → Some frame ≡ slice_get frames i → is_err r ≡ (length copy == 64) → OnOk r (new ≡ copy ++ frame ∷ [])
+    → new ≡ take (i + 1) frames
 frame-copied {frame = frame} frames copy new i r e lt few at full ok =
     let count : length copy ≡ i = ap length e ∙ length-take-le i frames (omega (arith, lt)) in
     let room : (length copy == 64) ≡ false = ne_eqb (length copy) 64 (λ q. absurd (omega (arith, q, count, lt, few))) in

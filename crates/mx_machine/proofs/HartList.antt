@@ -12,7 +12,8 @@ module _ (n : ℕ) (items : List Hart) (harts : List Hart) (h : ℕ) (d : Hart) 
       let long : h < length (take n items) = omega (arith, ap length view) in
       let low : h < n = omega (arith, length-take n items) in
       let inside : h < length items = omega (arith, length-take n items) in
-      get_or_default items h d no_held_hart inside ∙ sym (get_or-take n items h no_held_hart low) ∙ ap (λ (hs : List Hart). get_or hs h no_held_hart) view
+      get_or_default items h d no_held_hart inside ∙ sym (get_or-take n items h no_held_hart low)
+      ∙ ap (λ (hs : List Hart). get_or hs h no_held_hart) view
 
   -- a part that is written is the hart after a step
   pub hart_written : (step : Hart → Hart) (x : Hart) → x ≡ step (get_or items h d) → take n (set items h x) ≡ stepped h step harts

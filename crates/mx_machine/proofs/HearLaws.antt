@@ -1,5 +1,6 @@
 -- Calls in flight: what a machine's harts say of them is what its checker says.
-use Rattle.std.proofs.Common.{◌≡◌, ◌≢◌, ℕ, suc, ◌+◌, ◌<◌, ◌⊎◌, inl, inr, ◌==◌, ◌&&◌, Bool, true, false, not, cond, List, [], ◌∷◌, length, get_or, set, Option, Some, None, refl, sym, ap, subst, ◌∙◌, arith, eq-eqb, zero-add}
+use Rattle.std.proofs.Common.{◌≡◌, ◌≢◌, ℕ, suc, ◌+◌, ◌<◌, ◌⊎◌, inl, inr, ◌==◌, ◌&&◌, Bool, true, false, not, cond, List, [], ◌∷◌, length}
+use Rattle.std.proofs.Common.{get_or, set, Option, Some, None, refl, sym, ap, subst, ◌∙◌, arith, eq-eqb, zero-add}
 use Rattle.std.proofs.Common.{map as list_map}
 use Rattle.std.specs.Prelude.{fold, IfSome}
 use Rattle.std.specs.List.{list_any, enumerate_from}
@@ -59,12 +60,14 @@ taken choice None = None
 taken choice (Some f) = choice f.heard (f.first, f.count)
 
 -- a choice takes the same range of a hart that waits as of its call in flight
-status-taken : (choice : List Bool → ℕ × ℕ → Option (ℕ × ℕ)) (c : Core) (call : Call) (range : ℕ × ℕ) (flight : Option Flight) (p : Progress) →
+status-taken : (choice : List Bool → ℕ × ℕ → Option (ℕ × ℕ)) (c : Core) (call : Call) (range : ℕ × ℕ) (flight : Option Flight)
+    (p : Progress) →
     call_range c call ≡ range → FliesWhileWaiting range flight p → flight_range c choice (status_by call flight p) ≡ taken choice flight
 status-taken choice c call range flight G.Running e t = ap (taken choice) (sym t)
 status-taken choice c call range None G.Waiting e t = absurd t
 status-taken choice c call range (Some f) G.Waiting e t =
-    ap (choice f.heard) e ∙ ap {B = Option (ℕ × ℕ)} (λ n. choice f.heard (n, range.1)) (sym t.first) ∙ ap {B = Option (ℕ × ℕ)} (λ n. choice f.heard (f.first, n)) (sym t.count)
+    ap (choice f.heard) e ∙ ap {B = Option (ℕ × ℕ)} (λ n. choice f.heard (n, range.1)) (sym t.first)
+    ∙ ap {B = Option (ℕ × ℕ)} (λ n. choice f.heard (f.first, n)) (sym t.count)
 status-taken choice c call range flight (G.Halted code) e t = ap (taken choice) (sym t)
 
 -- and a hart that hears it marks the status as the call in flight
@@ -75,7 +78,8 @@ status-heard h call range None G.Waiting t = absurd t
 status-heard h call range (Some f) G.Waiting t = refl
 status-heard h call range flight (G.Halted code) t = refl
 
-flies-heard : (h : ℕ) (range : ℕ × ℕ) (flight : Option Flight) (p : Progress) → FliesWhileWaiting range flight p → FliesWhileWaiting range (option_map (marked h) flight) p
+flies-heard : (h : ℕ) (range : ℕ × ℕ) (flight : Option Flight) (p : Progress) → FliesWhileWaiting range flight p
+    → FliesWhileWaiting range (option_map (marked h) flight) p
 flies-heard h range flight G.Running t = ap (option_map (marked h)) t
 flies-heard h range None G.Waiting t = t
 flies-heard h range (Some f) G.Waiting t = record { first = t.first; count = t.count }
@@ -88,14 +92,16 @@ halted-seen call flight G.Waiting = refl
 halted-seen call flight (G.Halted code) = refl
 
 -- an equation of each hart of the state is one of each hart of the machine
-module _ {Y : Type 0} (f : ℕ → Seen → Y) (g : ℕ → Y) (xs : List Hart) (kept : List Kept) (each : (j : ℕ) → f j (seen j (hart_among xs j) (kept_at kept j)) ≡ g j) where
+module _ {Y : Type 0} (f : ℕ → Seen → Y) (g : ℕ → Y) (xs : List Hart) (kept : List Kept) (each : (j : ℕ)
+    → f j (seen j (hart_among xs j) (kept_at kept j)) ≡ g j) where
   numbered : (j : ℕ) → f (0 + j) (get_or (seen_from 0 xs kept) j nobody_seen) ≡ g (0 + j)
   numbered j = search (arith, hart-seen)
 
 -- what a choice takes of another hart's call in flight
 module _ (m : Held) (h : ℕ) (choice : List Bool → ℕ × ℕ → Option (ℕ × ℕ)) where
   taken-other : (j : ℕ) → IsTied (range_of m.parts) j (hart_among m.harts j) (kept_at m.parts.harts j) →
-      flight_range (core_in m) choice (seen j (hart_among m.harts j) (kept_at m.parts.harts j)).status ≡ taken choice (kept_at m.parts.harts j).flight
+      flight_range (core_in m) choice (seen j (hart_among m.harts j) (kept_at m.parts.harts j)).status
+      ≡ taken choice (kept_at m.parts.harts j).flight
   taken-other j t = search (arith, status-taken, m.parts, range-is)
 
 -- what hart h hasn't heard
@@ -104,11 +110,13 @@ unheard-taken h None = refl
 unheard-taken h (Some f) = refl
 
 unheard-alike : (m : Held) (h : ℕ) → OthersTied m h → (j : ℕ) →
-    cond (j == h) None (flight_range (core_in m) (unheard_range h) (seen j (hart_among m.harts j) (kept_at m.parts.harts j)).status) ≡ unheard h j m.parts.harts
+    cond (j == h) None (flight_range (core_in m) (unheard_range h) (seen j (hart_among m.harts j) (kept_at m.parts.harts j)).status)
+    ≡ unheard h j m.parts.harts
 unheard-alike m h others j = search (arith, cases_eq, m.harts, m.parts.harts, eq-eqb, taken-other, unheard-taken)
 
 -- what bars a span
-bars-taken : (h : ℕ) (s : Span) (o : Option Flight) → some_passes (λ (r : ℕ × ℕ). meets s r.0 r.1) (taken (heard_range h) o) ≡ flight_forbids h s o
+bars-taken : (h : ℕ) (s : Span) (o : Option Flight) → some_passes (λ (r : ℕ × ℕ). meets s r.0 r.1) (taken (heard_range h) o)
+    ≡ flight_forbids h s o
 bars-taken h s None = refl
 bars-taken h s (Some f) = by (is_in f.heard h)
   where
@@ -117,7 +125,8 @@ bars-taken h s (Some f) = by (is_in f.heard h)
     by false = refl
 
 hart-bars : (m : Held) (h : ℕ) (s : Span) → OthersTied m h → (j : ℕ) →
-    some_passes (λ (r : ℕ × ℕ). meets s r.0 r.1) (cond (j == h) None (flight_range (core_in m) (heard_range h) (seen j (hart_among m.harts j) (kept_at m.parts.harts j)).status))
+    some_passes (λ (r : ℕ × ℕ). meets s r.0 r.1) (cond (j == h) None
+    (flight_range (core_in m) (heard_range h) (seen j (hart_among m.harts j) (kept_at m.parts.harts j)).status))
     ≡ hart_forbids h s m.parts.harts j
 hart-bars m h s others j =
     search (arith, cases_eq, some_passes, m.harts, m.parts.harts, eq-eqb, ne_eqb, taken-other, bars-taken)
@@ -125,7 +134,10 @@ hart-bars m h s others j =
 -- each hart of the state, once hart h has heard its call
 hart-hears : (m : Held) (h : ℕ) → Fits m → h < length m.harts → (j : ℕ) →
     cond (j == h) (seen j (hart_among m.harts j) (kept_at m.parts.harts j))
-    (record (seen j (hart_among m.harts j) (kept_at m.parts.harts j)) { status = heard_by h (seen j (hart_among m.harts j) (kept_at m.parts.harts j)).status })
+    (record (seen j (hart_among m.harts j) (kept_at m.parts.harts j)) {
+      status =
+          heard_by h (seen j (hart_among m.harts j) (kept_at m.parts.harts j)).status;
+    })
     ≡ seen j (hart_among m.harts j) (kept_at (hears h m.parts.harts) j)
 hart-hears m h f there j =
     search (arith, cases_eq, m.harts, m.parts.harts, eq-eqb, hears_own, f.ties, ne_eqb, status-heard, m.parts, heard-at)
@@ -133,7 +145,8 @@ hart-hears m h f there j =
 -- the harts of the state after an edit of each by its number
 module _ (edit : ℕ × Seen → Seen) (new : List Kept) where
   edited : (i : ℕ) (xs : List Hart) (kept : List Kept) →
-      ((j : ℕ) → edit (i + j, seen (i + j) (get_or xs j no_held_hart) (kept_at kept (i + j))) ≡ seen (i + j) (get_or xs j no_held_hart) (kept_at new (i + j))) →
+      ((j : ℕ) → edit (i + j, seen (i + j) (get_or xs j no_held_hart) (kept_at kept (i + j)))
+      ≡ seen (i + j) (get_or xs j no_held_hart) (kept_at new (i + j))) →
       list_map edit (enumerate_from i (seen_from i xs kept)) ≡ seen_from i xs new
   edited i [] kept e = refl
   edited i (x ∷ xs) kept e =
@@ -143,10 +156,12 @@ module _ (edit : ℕ × Seen → Seen) (new : List Kept) where
       ap (λ (y : Seen). y ∷ list_map edit (enumerate_from (i + 1) (seen_from (i + 1) xs kept))) first
       ∙ ap (λ (ys : List Seen). seen i x (kept_at new i) ∷ ys) (edited (i + 1) xs kept (λ j.
       let q : (i + 1) + j ≡ i + suc j = omega arith in
-      ap (λ k. edit (k, seen k (get_or xs j no_held_hart) (kept_at kept k))) q ∙ e (suc j) ∙ ap (λ k. seen k (get_or xs j no_held_hart) (kept_at new k)) (sym q)))
+      ap (λ k. edit (k, seen k (get_or xs j no_held_hart) (kept_at kept k))) q ∙ e (suc j)
+      ∙ ap (λ k. seen k (get_or xs j no_held_hart) (kept_at new k)) (sym q)))
 
 -- the modules don't depend on the harts
-modules-alike : (a b : Core) (d : ℕ) (heaps : List HeapState) → ((n : ℕ) → module_at a n ≡ module_at b n) → modules_from a d heaps ≡ modules_from b d heaps
+modules-alike : (a b : Core) (d : ℕ) (heaps : List HeapState) → ((n : ℕ) → module_at a n ≡ module_at b n)
+    → modules_from a d heaps ≡ modules_from b d heaps
 modules-alike a b d [] same = refl
 modules-alike a b d (x ∷ xs) same =
     ap (λ (y : Module). with_heap y x ∷ modules_from a (d + 1) xs) (same d)
@@ -160,9 +175,13 @@ module _ (m : Held) (h : ℕ) (f : Fits m) (there : h < length m.harts) where
   -- the harts and the caches after hart h has heard
   harts-heard : (heard_in h (core_in m)).harts ≡ seen_from 0 m.harts (hears h m.parts.harts)
   harts-heard =
-      edited (λ (p : ℕ × Seen). cond (p.0 == h) p.1 (record p.1 { status = heard_by h p.1.status })) (hears h m.parts.harts) 0 m.harts m.parts.harts
+      edited (λ (p : ℕ × Seen). cond (p.0 == h) p.1 (record p.1 { status = heard_by h p.1.status })) (hears h m.parts.harts) 0 m.harts
+      m.parts.harts
       (λ j. ap (λ k. cond (k == h) (seen k (hart_among m.harts j) (kept_at m.parts.harts k))
-      (record (seen k (hart_among m.harts j) (kept_at m.parts.harts k)) { status = heard_by h (seen k (hart_among m.harts j) (kept_at m.parts.harts k)).status }))
+      (record (seen k (hart_among m.harts j) (kept_at m.parts.harts k)) {
+        status =
+            heard_by h (seen k (hart_among m.harts j) (kept_at m.parts.harts k)).status;
+      }))
       (zero-add j)
       ∙ hart-hears m h f there j
       ∙ ap (λ k. seen k (hart_among m.harts j) (kept_at (hears h m.parts.harts) k)) (sym (zero-add j)))
@@ -182,7 +201,8 @@ module _ (m : Held) (h : ℕ) (f : Fits m) (there : h < length m.harts) where
       let kept = m.parts.harts in
       caches-first kept h (omega (arith, there, f.count)) (length kept)
       ∙ ap (λ (c : Cache). set (caches_of kept) h c) (sym (ranges-heard (kept_at kept h).cache))
-      ∙ ap (λ (c : Cache). set (caches_of kept) h (fold (λ cache (r : ℕ × ℕ). without_range r.0 r.1 cache) c (unheard_ranges (core_in m) h)))
+      ∙ ap (λ (c : Cache). set (caches_of kept) h (fold (λ cache (r : ℕ × ℕ). without_range r.0 r.1 cache) c
+      (unheard_ranges (core_in m) h)))
       (sym (cache-kept kept h))
 
 -- hearing is the state's, and leaves all fitting
@@ -194,7 +214,8 @@ tied-still : (range : Call → ℕ × ℕ) (i : ℕ) (x : Hart) (now before : Ke
     FliesWhileWaiting (range (own_call i x)) now.flight x.progress → IsTied range i x before → IsTied range i x now
 tied-still range i x now before halted domain flight t = search arith
 
-tied-heard : (m : Held) (h : ℕ) → Fits m → h < length m.harts → (i : ℕ) → IsTied (range_of m.parts) i (hart_among m.harts i) (kept_at (hears h m.parts.harts) i)
+tied-heard : (m : Held) (h : ℕ) → Fits m → h < length m.harts → (i : ℕ)
+    → IsTied (range_of m.parts) i (hart_among m.harts i) (kept_at (hears h m.parts.harts) i)
 tied-heard m h f there i =
     search (arith, cases_eq, m.harts, m.parts.harts, hears_own, tied-still, m.parts, f.ties, heard-at, flies-heard)
 
@@ -210,7 +231,8 @@ ready-counted m h heard f =
     sym (all-numbered (λ (p : ℕ × Seen). lets_pass h heard p.0 (halted_by p.1.status)) low nobody_seen 0 (seen_from 0 m.harts m.parts.harts)
     (numbered (λ k (x : Seen). lets_pass h heard k (halted_by x.status)) low m.harts m.parts.harts
     (λ j. ap (λ b. lets_pass h heard j b)
-    (halted-seen (own_call j (hart_among m.harts j)) (kept_at m.parts.harts j).flight (hart_among m.harts j).progress ∙ sym (f.ties j).halted))))
+    (halted-seen (own_call j (hart_among m.harts j)) (kept_at m.parts.harts j).flight (hart_among m.harts j).progress
+    ∙ sym (f.ties j).halted))))
     ∙ ap (λ n. all_below n low) (as-many m f.count)
 
 -- a waiting hart's call may take effect in both or in neither
@@ -245,9 +267,11 @@ bars-at m h s n others =
     let low : ℕ → Bool = λ i. hart_forbids h s m.parts.harts i in
     let test : ℕ × ℕ → Bool = λ r. meets s r.0 r.1 in
     sym (not-not (list_any test (heard_ranges (core_in m) h)))
-    ∙ ap not (sym (none-numbered (λ (p : ℕ × Seen). cond (p.0 == h) None (flight_range (core_in m) (heard_range h) p.1.status)) test low nobody_seen
+    ∙ ap not (sym (none-numbered (λ (p : ℕ × Seen). cond (p.0 == h) None (flight_range (core_in m) (heard_range h) p.1.status)) test low
+    nobody_seen
     0 (seen_from 0 m.harts m.parts.harts)
-    (numbered (λ k (x : Seen). some_passes test (cond (k == h) None (flight_range (core_in m) (heard_range h) x.status))) low m.harts m.parts.harts
+    (numbered (λ k (x : Seen). some_passes test (cond (k == h) None (flight_range (core_in m) (heard_range h) x.status))) low m.harts
+    m.parts.harts
     (hart-bars m h s others))))
     ∙ ap (λ k. not (all_below k (λ i. not (low i)))) (as-many m n)
 

@@ -1,5 +1,6 @@
 -- A hart that hears the others' calls: what the checker keeps of each hart then, and which spans the hart dropped.
-use Rattle.std.proofs.Common.{◌≡◌, ◌≢◌, ℕ, zero, suc, ◌<◌, ◌≤◌, ◌⊎◌, inl, inr, ◌==◌, Bool, true, false, cond, List, length, get_or, set, Option, Some, None, refl, sym, ap, subst, ◌∙◌, arith, eq-eqb}
+use Rattle.std.proofs.Common.{◌≡◌, ◌≢◌, ℕ, zero, suc, ◌<◌, ◌≤◌, ◌⊎◌, inl, inr, ◌==◌, Bool, true, false, cond, List, length, get_or, set}
+use Rattle.std.proofs.Common.{Option, Some, None, refl, sym, ap, subst, ◌∙◌, arith, eq-eqb}
 use Rattle.std.proofs.Common.{map as list_map}
 use Rattle.std.specs.Option.{option_map}
 use Rattle.std.proofs.Math.ListN.{get_or-map}
@@ -32,7 +33,8 @@ marked-none : (h : ℕ) (o : Option Flight) → unheard_of h o ≡ None → opti
 marked-none h None e = refl
 marked-none h (Some f) e = by (is_in f.heard h) refl e
   where
-    by : (b : Bool) → is_in f.heard h ≡ b → cond {A = Option (ℕ × ℕ)} b None (Some (f.first, f.count)) ≡ None → option_map (marked h) (Some f) ≡ Some f
+    by : (b : Bool) → is_in f.heard h ≡ b → cond {A = Option (ℕ × ℕ)} b None (Some (f.first, f.count)) ≡ None
+        → option_map (marked h) (Some f) ≡ Some f
     by true is e = ap (λ (f : Flight). Some f) (marked-again h f is)
     by false is e = cc
 
@@ -43,7 +45,13 @@ unheard-none h n harts apart e = sym (ap (λ b. cond b None (unheard_of h (kept_
 module _ (harts : List Kept) (h n : ℕ) (apart : n ≢ h) (other : n < length harts) where
   heard-range : (o : Option (ℕ × ℕ)) → unheard h n harts ≡ o → IsHeard h (kept_at (hears_range h n o harts) n) (kept_at harts n)
   heard-range None e =
-      record { cache = refl; halted = refl; domain = refl; flight = sym (marked-none h (kept_at harts n).flight (unheard-none h n harts apart e)) }
+      record {
+        cache = refl;
+        halted = refl;
+        domain = refl;
+        flight =
+            sym (marked-none h (kept_at harts n).flight (unheard-none h n harts apart e));
+      }
   heard-range (Some r) e =
       let dropped = at_hart h (drops_range r.0 r.1) harts in
       heard-is h _ (kept_at harts n)
@@ -51,7 +59,8 @@ module _ (harts : List Kept) (h n : ℕ) (apart : n ≢ h) (other : n < length h
       ∙ ap (heard_by h) (kept_at-other harts h (drops_range r.0 r.1) n apart))
 
 -- the others' stay
-still-range : (harts : List Kept) (h n : ℕ) (o : Option (ℕ × ℕ)) (i : ℕ) → i ≢ n → i ≢ h → kept_at (hears_range h n o harts) i ≡ kept_at harts i
+still-range : (harts : List Kept) (h n : ℕ) (o : Option (ℕ × ℕ)) (i : ℕ) → i ≢ n → i ≢ h
+    → kept_at (hears_range h n o harts) i ≡ kept_at harts i
 still-range harts h n None i other apart = refl
 still-range harts h n (Some r) i other apart =
     kept_at-other (at_hart h (drops_range r.0 r.1) harts) n (heard_by h) i other ∙ kept_at-other harts h (drops_range r.0 r.1) i apart
@@ -60,7 +69,8 @@ still-first : (harts : List Kept) (h n i : ℕ) → n ≤ i → i ≢ h → kept
 still-first harts h zero i le apart = refl
 still-first harts h (suc n) i le apart =
     let other : i ≢ n = λ e. absurd (omega (arith, e, le)) in
-    still-range (hears_first h n harts) h n (unheard h n (hears_first h n harts)) i other apart ∙ still-first harts h n i (omega (arith, le)) apart
+    still-range (hears_first h n harts) h n (unheard h n (hears_first h n harts)) i other apart
+    ∙ still-first harts h n i (omega (arith, le)) apart
 
 -- the calls of the first n harts are heard
 heard-joined : (h : ℕ) (a b c : Kept) → IsHeard h a b → b ≡ c → IsHeard h a c
@@ -69,7 +79,8 @@ heard-joined h a b c p e = subst (λ (k : Kept). IsHeard h a k) e p
 heard-before : (h : ℕ) (a b c : Kept) → a ≡ b → IsHeard h b c → IsHeard h a c
 heard-before h a b c e p = subst (λ (k : Kept). IsHeard h k c) (sym e) p
 
-heard-first : (harts : List Kept) (h n i : ℕ) → n ≤ length harts → i < n → i ≢ h → IsHeard h (kept_at (hears_first h n harts) i) (kept_at harts i)
+heard-first : (harts : List Kept) (h n i : ℕ) → n ≤ length harts → i < n → i ≢ h
+    → IsHeard h (kept_at (hears_first h n harts) i) (kept_at harts i)
 heard-first harts h zero i most lt apart = absurd (omega (arith, lt))
 heard-first harts h (suc n) i most lt apart = by (heard-first harts h n i (omega (arith, most))) (cases_eq i n)
   where
@@ -121,7 +132,8 @@ without_first range (suc n) c = without_one (range n) (without_first range n c)
 caches-range : (harts : List Kept) (h n : ℕ) (o : Option (ℕ × ℕ)) →
     caches_of (hears_range h n o harts) ≡ set (caches_of harts) h (without_one o (kept_at harts h).cache)
 caches-range harts h n None =
-    sym (ap (λ (hs : List Kept). caches_of hs) (set-get_or harts h nothing_kept)) ∙ map-set (λ (k : Kept). k.cache) harts h (kept_at harts h)
+    sym (ap (λ (hs : List Kept). caches_of hs) (set-get_or harts h nothing_kept))
+    ∙ map-set (λ (k : Kept). k.cache) harts h (kept_at harts h)
 caches-range harts h n (Some r) =
     let dropped = at_hart h (drops_range r.0 r.1) harts in
     map-set_same (λ (k : Kept). k.cache) dropped n (heard_by h (kept_at dropped n)) nothing_kept refl
@@ -143,13 +155,15 @@ module _ (harts : List Kept) (h : ℕ) (there : h < length harts) where
   pub caches-first : (n : ℕ) →
       caches_of (hears_first h n harts) ≡ set (caches_of harts) h (without_first (λ i. unheard h i harts) n (kept_at harts h).cache)
   caches-first zero =
-      sym (ap (λ (hs : List Kept). caches_of hs) (set-get_or harts h nothing_kept)) ∙ map-set (λ (k : Kept). k.cache) harts h (kept_at harts h)
+      sym (ap (λ (hs : List Kept). caches_of hs) (set-get_or harts h nothing_kept))
+      ∙ map-set (λ (k : Kept). k.cache) harts h (kept_at harts h)
   caches-first (suc n) =
       let before = hears_first h n harts in
       let c = without_first (λ i. unheard h i harts) n (kept_at harts h).cache in
       let long : h < length (caches_of harts) = omega (arith, there, length-map harts (λ (k : Kept). k.cache)) in
       let own : (kept_at before h).cache ≡ c =
-      sym (cache-kept before h) ∙ ap (λ (cs : List Cache). get_or cs h no_cache) (caches-first n) ∙ get_or-set_same (caches_of harts) h c no_cache long in
+      sym (cache-kept before h) ∙ ap (λ (cs : List Cache). get_or cs h no_cache) (caches-first n)
+      ∙ get_or-set_same (caches_of harts) h c no_cache long in
       caches-range before h n (unheard h n before)
       ∙ ap (λ (cs : List Cache). set cs h (without_one (unheard h n before) (kept_at before h).cache)) (caches-first n)
       ∙ set-set (caches_of harts) h c (without_one (unheard h n before) (kept_at before h).cache)
@@ -167,4 +181,5 @@ unheard-quiet harts h n q = ap (λ o. cond (n == h) None (unheard_of h o)) q ∙
 pub quiet-first : (harts : List Kept) (h n : ℕ) → ((i : ℕ) → (kept_at harts i).flight ≡ None) → hears_first h n harts ≡ harts
 quiet-first harts h zero q = refl
 quiet-first harts h (suc n) q =
-    ap (λ (hs : List Kept). hears_one h n hs) (quiet-first harts h n q) ∙ ap (λ (o : Option (ℕ × ℕ)). hears_range h n o harts) (unheard-quiet harts h n (q n))
+    ap (λ (hs : List Kept). hears_one h n hs) (quiet-first harts h n q)
+    ∙ ap (λ (o : Option (ℕ × ℕ)). hears_range h n o harts) (unheard-quiet harts h n (q n))

@@ -1,5 +1,6 @@
 -- The modules of the state: a module is its heap, its stack area, and whether it is killing and dead.
-use Rattle.std.proofs.Common.{◌≡◌, ◌≢◌, ℕ, zero, suc, ◌+◌, ◌-◌, ◌*◌, ◌<◌, ◌≤◌, ◌⊎◌, Bool, true, false, ◌==◌, cond, List, [], ◌∷◌, length, get_or, set, refl, sym, ap, subst, ◌∙◌, arith, if◌then◌else◌}
+use Rattle.std.proofs.Common.{◌≡◌, ◌≢◌, ℕ, zero, suc, ◌+◌, ◌-◌, ◌*◌, ◌<◌, ◌≤◌, ◌⊎◌, Bool, true, false, ◌==◌, cond, List, [], ◌∷◌, length}
+use Rattle.std.proofs.Common.{get_or, set, refl, sym, ap, subst, ◌∙◌, arith, if◌then◌else◌}
 use Rattle.std.proofs.lemmas.Bool.{cases_eq}
 use Rattle.std.proofs.lemmas.List.{ext_get_or, get_or-set_same, get_or-set_other, length-set}
 use Rattle.mx_words.specs.Ranges.{address_of}
@@ -18,11 +19,13 @@ use Rattle.mx_machine.specs.Made.{core_in}
 use Rattle.mx_machine.specs.Ties.{Fits}
 
 -- harts and turns don't matter for the modules
-pub modules-beside : (d : ℕ) (heaps : List HeapState) (harts others : List Seen) (stacks : List StackArea) (dead : List Bool) (turns steps : ℕ) →
+pub modules-beside : (d : ℕ) (heaps : List HeapState) (harts others : List Seen) (stacks : List StackArea) (dead : List Bool)
+    (turns steps : ℕ) →
     modules_from (beside harts stacks dead turns) d heaps ≡ modules_from (beside others stacks dead steps) d heaps
 modules-beside d [] harts others stacks dead turns steps = refl
 modules-beside d (x ∷ xs) harts others stacks dead turns steps =
-    ap (λ (ms : List Module). with_heap (module_at (beside others stacks dead steps) d) x ∷ ms) (modules-beside (d + 1) xs harts others stacks dead turns steps)
+    ap (λ (ms : List Module). with_heap (module_at (beside others stacks dead steps) d) x ∷ ms)
+    (modules-beside (d + 1) xs harts others stacks dead turns steps)
 
 homes-at : (dead : List Bool) (n i : ℕ) (stacks : List StackArea) → i < length stacks →
     get_or (homes_from dead n stacks) i no_module ≡ home dead (n + i) (get_or stacks i no_area)
@@ -39,9 +42,11 @@ modules-at rest n (suc i) (x ∷ xs) l = let e : (n + 1) + i ≡ n + suc i = ome
     modules-at rest (n + 1) i xs (omega arith) ∙ ap (λ k. with_heap (module_at rest k) (get_or xs i no_heap)) e
 
 -- what stands at place i of the modules
-module _ (harts : List Seen) (stacks : List StackArea) (dead : List Bool) (turns : ℕ) (heaps : List HeapState) (same : length stacks ≡ length heaps) where
+module _ (harts : List Seen) (stacks : List StackArea) (dead : List Bool) (turns : ℕ) (heaps : List HeapState)
+    (same : length stacks ≡ length heaps) where
   place-of : (i : ℕ) → i < length heaps →
-      get_or (modules_from (beside harts stacks dead turns) 1 heaps) i no_module ≡ with_heap (home dead (1 + i) (get_or stacks i no_area)) (get_or heaps i no_heap)
+      get_or (modules_from (beside harts stacks dead turns) 1 heaps) i no_module
+      ≡ with_heap (home dead (1 + i) (get_or stacks i no_area)) (get_or heaps i no_heap)
   place-of i l = search (arith, modules-at, homes-at)
 
 -- a domain of a machine
@@ -49,7 +54,8 @@ pub record IsHere (m : Held) (d : ℕ) : Type 0 where
   pub low : 1 ≤ d
   pub high : d ≤ length m.parts.heaps
 
-pub module-is : (m : Held) (d : ℕ) → Fits m → IsHere m d → module_at (core_in m) d ≡ with_heap (home m.dead d (area_of m.stacks d)) (heap_at m.parts.heaps d)
+pub module-is : (m : Held) (d : ℕ) → Fits m → IsHere m d → module_at (core_in m) d
+    ≡ with_heap (home m.dead d (area_of m.stacks d)) (heap_at m.parts.heaps d)
 module-is m d f p = search (arith, place-of, m.stacks, m.dead, m.steps, m.parts.heaps, f.stacks)
 
 pub module-kills : (m : Held) (d : ℕ) → Fits m → IsHere m d → (module_at (core_in m) d).kills ≡ (area_of m.stacks d).kills
@@ -61,7 +67,8 @@ module-dead m d f p = ap (λ (x : Module). x.dead) (module-is m d f p)
 -- the address after a stack area
 behind-told : (first words h : ℕ) → (if words == 0 then 0 else address_of (first + words * (h + 1)))
     ≡ (if words == 0 then 0 else address_of ((if words == 0 then 0 else first) + words * (h + 1)))
-behind-told first words h = elim (words == 0) as (λ b. cond b 0 (address_of (first + words * (h + 1))) ≡ cond b 0 (address_of (cond b 0 first + words * (h + 1)))) [ true ↦ refl | false ↦ refl ]
+behind-told first words h = elim (words == 0) as (λ b. cond b 0 (address_of (first + words * (h + 1)))
+    ≡ cond b 0 (address_of (cond b 0 first + words * (h + 1)))) [ true ↦ refl | false ↦ refl ]
 
 pub stack-behind : (m : Held) (d h : ℕ) → Fits m → IsHere m d → stack_address (core_in m) d h ≡ behind m.stacks d h
 stack-behind m d h f p = grind (arith, m.stacks, module-is, behind-told)
@@ -70,7 +77,8 @@ stack-behind m d h f p = grind (arith, m.stacks, module-is, behind-told)
 module _ (m : Held) (d : ℕ) (f : Fits m) (p : IsHere m d) where
   dead-place : (i : ℕ) → i < length m.parts.heaps → (i ≡ d - 1) ⊎ (i ≢ d - 1) →
       get_or (modules_from (beside (rest_of m).harts m.stacks (set m.dead d true) m.steps) 1 m.parts.heaps) i no_module
-      ≡ get_or (set (modules_from (rest_of m) 1 m.parts.heaps) (d - 1) (record (get_or (modules_from (rest_of m) 1 m.parts.heaps) (d - 1) no_module) { dead = true })) i no_module
+      ≡ get_or (set (modules_from (rest_of m) 1 m.parts.heaps) (d - 1)
+      (record (get_or (modules_from (rest_of m) 1 m.parts.heaps) (d - 1) no_module) { dead = true })) i no_module
   dead-place i l x = grind (arith, get_or-set_same, length-modules, place-of, get_or-set_other)
 
   modules-dead : modules_from (beside (rest_of m).harts m.stacks (set m.dead d true) m.steps) 1 m.parts.heaps

@@ -13,7 +13,8 @@ pub bus-inside : (a a1 a2 a3 a4 a5 b n1 n2 n3 n4 n5 s : ℕ) →
 bus-inside a a1 a2 a3 a4 a5 b n1 n2 n3 n4 n5 s l = search (arith, in-first, in-last)
 
 pub supervisor-inside : (a a1 a2 a3 a4 a5 b n1 n2 n3 n4 n5 c c1 c2 d m1 m2 s : ℕ) →
-    up a (up a1 (up a2 (up a3 (up a4 (up a5 (up b 0 + up c (up c1 (up c2 (up d 0 + s) + m1) + m2)) + n1) + n2) + n3) + n4) + n5) < 2 ^ 63 → s < 2 ^ 63
+    up a (up a1 (up a2 (up a3 (up a4 (up a5 (up b 0 + up c (up c1 (up c2 (up d 0 + s) + m1) + m2)) + n1) + n2) + n3) + n4) + n5) < 2 ^ 63
+    → s < 2 ^ 63
 supervisor-inside a a1 a2 a3 a4 a5 b n1 n2 n3 n4 n5 c c1 c2 d m1 m2 s l = search (arith, in-first, bus-inside, in-last)
 
 pub checker-inside : (a a1 a2 a3 a4 a5 b n1 n2 n3 n4 n5 c c1 c2 d m1 m2 e e1 e2 e3 e4 f k1 k2 k3 k4 s : ℕ) →

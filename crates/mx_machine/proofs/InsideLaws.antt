@@ -31,10 +31,16 @@ module _ (m : Held) (h : ℕ) (w : IsWhole m) (r : RunsAlive m h) where
   pub acts-inside : (n : Held) → n ≡ counted m → IsOpen m h (hart_among m.harts h).pc → ActsInside m h n
   acts-inside n is o =
       let still = none-flies m w.fits o.quiet in
-      let quiet : heard h (counted m) ≡ counted m = ap (λ (kept : List Kept). record (counted m) { parts = record m.parts { harts = kept } }) (heard-quiet m.parts.harts h still) in
+      let quiet : heard h (counted m) ≡ counted m = ap (λ (kept : List Kept).
+      record (counted m) { parts = record m.parts { harts = kept } }) (heard-quiet m.parts.harts h still) in
       let after : n ≡ heard h (counted m) = is ∙ sym quiet in
-      let all : HasHeardAll h n.parts.harts = subst (λ (k : Held). HasHeardAll h k.parts.harts) (sym is) (all-quiet m.parts.harts h still) in
-      let run : MayRun n h = record { act = acts-now m h w P.Running r.runs refl n after all; runs = stands-now m h w P.Running r.runs refl n after } in
+      let all : HasHeardAll h n.parts.harts = subst (λ (k : Held). HasHeardAll h k.parts.harts) (sym is) (all-quiet m.parts.harts h still)
+      in
+      let run : MayRun n h = record {
+        act = acts-now m h w P.Running r.runs refl n after all;
+        runs =
+            stands-now m h w P.Running r.runs refl n after;
+      } in
       let gate = ap (λ (k : Held). gate_here k (hart_among k.harts h).domain (hart_among k.harts h).pc) is ∙ o.gate in
       let plain = acts-plain n h (hart_among n.harts h).domain (hart_among n.harts h).pc run refl refl (alive-now m n h r after) gate in
       record {

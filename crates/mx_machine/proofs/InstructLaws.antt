@@ -1,5 +1,6 @@
 -- An instruction: the machine after it is the state after its looks, with its bytes and registers; its answer says what is done then.
-use Rattle.std.proofs.Common.{◌≡◌, ℕ, ◌%◌, Bool, true, false, cond, ◌==◌, List, [], ◌∷◌, length, refl, sym, ap, subst, ◌∙◌, if◌then◌else◌, None, arith}
+use Rattle.std.proofs.Common.{◌≡◌, ℕ, ◌%◌, Bool, true, false, cond, ◌==◌, List, [], ◌∷◌, length, refl, sym, ap, subst, ◌∙◌, if◌then◌else◌}
+use Rattle.std.proofs.Common.{None, arith}
 use Rattle.std.proofs.lemmas.List.{set-get_or, get_or-set_same, length-set}
 use Rattle.mx_words.specs.declared.perm.Perm.{Perm}
 use Rattle.mx_words.specs.declared.perm.Access.TheVariants as A
@@ -48,25 +49,33 @@ bytes-count perm bytes (Goes regs target) = refl
 bytes-count perm bytes (Faults cause value) = refl
 bytes-count perm bytes (Loads place address width rd) = refl
 bytes-count perm bytes (Stores place address size value) =
-    elim (denied perm address A.Write) as (λ b. length (if b then bytes else store_at bytes address size value) ≡ length bytes) [ true ↦ refl | false ↦ length-put_at size bytes _ value ]
+    elim (denied perm address A.Write) as (λ b. length (if b then bytes else store_at bytes address size value) ≡ length bytes) [
+      | true ↦
+          refl
+      | false ↦ length-put_at size bytes _ value
+    ]
 bytes-count perm bytes Calls = refl
 bytes-count perm bytes (Jumps rd target) = refl
 
 -- what an answer but to go on leaves of the registers
-regs-still : (perm : ℕ → Perm) (bytes regs : List ℕ) (pc : ℕ) (returns : Bool) (e : Effect) → Stops (outcome_of perm pc returns e) → regs_after perm bytes regs pc returns e ≡ regs
+regs-still : (perm : ℕ → Perm) (bytes regs : List ℕ) (pc : ℕ) (returns : Bool) (e : Effect) → Stops (outcome_of perm pc returns e)
+    → regs_after perm bytes regs pc returns e ≡ regs
 unfolding outcome_of regs_after
 regs-still perm bytes regs pc returns (Goes new target) s = absurd s
 regs-still perm bytes regs pc returns (Faults cause value) s = refl
 regs-still perm bytes regs pc returns (Loads place address width rd) s =
     let new = written regs rd (loaded width (load_at bytes address (load_size width))) in
-    elim (denied perm address A.Read) as (λ b. Stops (cond b (trap 5 address) (O.Next (next pc))) → cond b regs new ≡ regs) [ true ↦ λ t. refl | false ↦ λ t. absurd t ] s
+    elim (denied perm address A.Read) as (λ b. Stops (cond b (trap 5 address) (O.Next (next pc)))
+    → cond b regs new ≡ regs) [ true ↦ λ t. refl | false ↦ λ t. absurd t ] s
 regs-still perm bytes regs pc returns (Stores place address size value) s = refl
 regs-still perm bytes regs pc returns Calls s = refl
 regs-still perm bytes regs pc returns (Jumps rd target) s =
     let new = written regs rd (next pc) in
-    elim returns as (λ b. Stops (cond b (O.Back rd target) (cond (target % 4 == 0) (O.Next target) (trap 0 target))) → cond b regs (cond (target % 4 == 0) new regs) ≡ regs) [
+    elim returns as (λ b. Stops (cond b (O.Back rd target) (cond (target % 4 == 0) (O.Next target) (trap 0 target)))
+    → cond b regs (cond (target % 4 == 0) new regs) ≡ regs) [
       | true ↦ λ t. refl
-      | false ↦ elim (target % 4 == 0) as (λ b. Stops (cond b (O.Next target) (trap 0 target)) → cond b new regs ≡ regs) [ true ↦ λ t. absurd t | false ↦ λ t. refl ]
+      | false ↦ elim (target % 4 == 0) as (λ b. Stops (cond b (O.Next target) (trap 0 target))
+          → cond b new regs ≡ regs) [ true ↦ λ t. absurd t | false ↦ λ t. refl ]
     ] s
 
 pc-still : (o : Outcome) (pc : ℕ) → Stops o → pc_after o pc ≡ pc
@@ -83,7 +92,8 @@ module _ (m : Held) (h : ℕ) (returns : Bool) (r : MayRun m h) where
   after-stays : let x = hart_among m.harts h in StayTied h x.domain m.parts.harts (after_instruction h returns m).parts.harts
   after-stays =
       let x = hart_among m.harts h in
-      stay-all m.parts h x.domain (fetch_touch x.pc ∷ touches_of (effect_for m x)) m.parts.harts (kept-there m h r.act) (r.act.fits.ties h).domain
+      stay-all m.parts h x.domain (fetch_touch x.pc ∷ touches_of (effect_for m x)) m.parts.harts (kept-there m h r.act)
+      (r.act.fits.ties h).domain
 
   pub fits-instruction : Fits (after_instruction h returns m)
   fits-instruction =
@@ -100,7 +110,8 @@ module _ (m : Held) (h : ℕ) (returns : Bool) (r : MayRun m h) where
         others = s.others;
         tied = record {
           halted = s.halted ∙ (r.act.fits.ties h).halted;
-          flight = subst (λ (p : Progress). FliesWhileWaiting (range_of m.parts (own_call h y)) (kept_at kept h).flight p) (sym r.runs) (s.flight ∙ running-free m h r);
+          flight = subst (λ (p : Progress). FliesWhileWaiting (range_of m.parts (own_call h y)) (kept_at kept h).flight p) (sym r.runs)
+              (s.flight ∙ running-free m h r);
           domain = s.domain;
         };
         bytes = bytes-count (perm_for m x) m.parts.ram (effect_for m x);
@@ -115,26 +126,34 @@ module _ (m : Held) (h : ℕ) (returns : Bool) (r : MayRun m h) where
       search (arith, m.harts, m.parts.ram, get_or-set_same, after-stays, fits-instruction, length-set, r.act.heard, m.parts.maps)
 
 -- the state after an instruction, by what the model says of it
-module _ (m : Held) (h : ℕ) (returns : Bool) (r : MayRun m h) (whole : length (map_of m.parts.maps (hart_among m.harts h).domain) ≡ m.parts.size)
+module _ (m : Held) (h : ℕ) (returns : Bool) (r : MayRun m h)
+    (whole : length (map_of m.parts.maps (hart_among m.harts h).domain) ≡ m.parts.size)
     (turns_back : returns ≡ is_return_at (core_in m) (hart_in m h).domain (hart_in m h).pc) where
   abbrev pub running_hart : Seen
   running_hart = seen_with Running (hart_among m.harts h)
 
   abbrev pub looks_before : List Look
-  looks_before = looks_of (core_in m) running_hart.domain (fetch_touch running_hart.pc ∷ touches_of (effect_in (reads_of m) (core_in m) running_hart))
+  looks_before = looks_of (core_in m) running_hart.domain (fetch_touch running_hart.pc
+      ∷ touches_of (effect_in (reads_of m) (core_in m) running_hart))
 
   -- the state after the looks, with the instruction's bytes
   abbrev pub behind_looks : Core
-  behind_looks = record (core_in m) { ram = bytes_in (reads_of m) (core_in m) running_hart; caches = (looked_all (reads_of m) h looks_before (core_in m)).caches }
+  behind_looks = record (core_in m) {
+    ram = bytes_in (reads_of m) (core_in m) running_hart;
+    caches =
+        (looked_all (reads_of m) h looks_before (core_in m)).caches;
+  }
 
   abbrev pub regs_now : List ℕ
-  regs_now = regs_after (perm_for m (hart_among m.harts h)) m.parts.ram (hart_among m.harts h).regs (hart_among m.harts h).pc returns (effect_for m (hart_among m.harts h))
+  regs_now = regs_after (perm_for m (hart_among m.harts h)) m.parts.ram (hart_among m.harts h).regs (hart_among m.harts h).pc returns
+      (effect_for m (hart_among m.harts h))
 
   at-running : is_return_at (core_in m) running_hart.domain running_hart.pc ≡ returns
   at-running = sym (turns_back ∙ ap (λ (s : Seen). is_return_at (core_in m) s.domain s.pc) (seen-running m h r))
 
   -- what the instruction makes is what its answer makes after the looks
-  pub made-behind : instruction m h ≡ acted (reads_of m) behind_looks h running_hart (action_of h running_hart regs_now (outcome_for m h returns))
+  pub made-behind : instruction m h ≡ acted (reads_of m) behind_looks h running_hart
+      (action_of h running_hart regs_now (outcome_for m h returns))
   made-behind =
       let q = reads_of m in
       let c = core_in m in
@@ -144,22 +163,27 @@ module _ (m : Held) (h : ℕ) (returns : Bool) (r : MayRun m h) (whole : length 
       ∙ ap (λ (ls : List Look). acted q (looked_all q h ls c) h s (runs_at q c h s None).action) (looks-alike q c h s)
       ∙ ap (λ (e : Core). acted q e h s (runs_at q c h s None).action) (looked_all-caches q h looks_before c)
       ∙ actions-alike q c h s (looked_all q h looks_before c).caches
-      ∙ ap (λ (b : Bool). acted q behind_looks h s (action_of h s (regs_after (perm_for m x) m.parts.ram x.regs x.pc b (effect_for m x)) (outcome_of (perm_for m x) x.pc b (effect_for m x)))) at-running
+      ∙ ap (λ (b : Bool). acted q behind_looks h s (action_of h s (regs_after (perm_for m x) m.parts.ram x.regs x.pc b (effect_for m x))
+      (outcome_of (perm_for m x) x.pc b (effect_for m x)))) at-running
 
   after-core : core_in (after_instruction h returns m)
-      ≡ with_hart h (seen h (instructed regs_now (outcome_for m h returns) (hart_among m.harts h)) (kept_at (after_instruction h returns m).parts.harts h)) behind_looks
+      ≡ with_hart h (seen h (instructed regs_now (outcome_for m h returns) (hart_among m.harts h))
+      (kept_at (after_instruction h returns m).parts.harts h)) behind_looks
   after-core =
       let x = hart_among m.harts h in
       let y = instructed regs_now (outcome_for m h returns) x in
       let p = (after_instruction h returns m).parts in
       let s = after-stays m h returns r in
-      let looked_at_all = looks-core (rest_of m) m.parts h x.domain r.act.domain whole (fetch_touch x.pc ∷ touches_of (effect_for m x)) m.parts.harts
+      let looked_at_all = looks-core (rest_of m) m.parts h x.domain r.act.domain whole (fetch_touch x.pc ∷ touches_of (effect_for m x))
+      m.parts.harts
       (bars-alike m h r.act.fits.count (λ i ne. r.act.fits.ties i)).at in
       core-step m h y p (λ i ne. ap (λ (k : Kept). k.flight) (s.others i ne))
-      ∙ ap (λ (cs : List Cache). with_hart h (seen h y (kept_at p.harts h)) (record (core_in m) { ram = p.ram; caches = cs })) (ap (λ (c : Core). c.caches) looked_at_all)
+      ∙ ap (λ (cs : List Cache). with_hart h (seen h y (kept_at p.harts h)) (record (core_in m) { ram = p.ram; caches = cs }))
+      (ap (λ (c : Core). c.caches) looked_at_all)
 
   -- it goes on
-  pub made-next : (pc : ℕ) → outcome_for m h returns ≡ O.Next pc → IsMade m (after_instruction h returns m) no_events T.Ran (instruction m h)
+  pub made-next : (pc : ℕ) → outcome_for m h returns ≡ O.Next pc
+      → IsMade m (after_instruction h returns m) no_events T.Ran (instruction m h)
   made-next pc e = grind (arith, m.harts, regs_now, behind_looks, running_hart, after-core, made-behind)
 
   -- it stops: the hart stands as before
@@ -168,7 +192,8 @@ module _ (m : Held) (h : ℕ) (returns : Bool) (r : MayRun m h) (whole : length 
       search (arith, m.harts, regs_now, regs-still, m.parts.ram, pc-still, after-core, behind_looks, seen-running, set-get_or)
 
   pub made-stopped : (regs : List ℕ) → Stops (outcome_for m h returns) →
-      instruction m h ≡ made_by (after_instruction h returns m) h (action_of h (hart_in (after_instruction h returns m) h) regs (outcome_for m h returns))
+      instruction m h ≡ made_by (after_instruction h returns m) h
+      (action_of h (hart_in (after_instruction h returns m) h) regs (outcome_for m h returns))
   made-stopped regs st =
       let n = after_instruction h returns m in
       let o = outcome_for m h returns in
@@ -181,6 +206,7 @@ module _ (m : Held) (h : ℕ) (returns : Bool) (r : MayRun m h) (whole : length 
 
   -- what is made after it stopped is what the instruction makes
   pub from-instruction : (new : Held) (events : Events) (answer : TurnKind) (o : Outcome) → outcome_for m h returns ≡ o → Stops o →
-      IsMade (after_instruction h returns m) new events answer (made_by (after_instruction h returns m) h (action_of h (hart_in (after_instruction h returns m) h) [] o)) →
+      IsMade (after_instruction h returns m) new events answer
+      (made_by (after_instruction h returns m) h (action_of h (hart_in (after_instruction h returns m) h) [] o)) →
       IsMade m new events answer (instruction m h)
   from-instruction new events answer o e st i = search (arith, made-stopped)

@@ -1,5 +1,7 @@
--- What a turn was: an instruction is carried out only by a hart that runs in a live domain, and not at a call gate, by a return, a call or a fault.
-use Rattle.std.proofs.Common.{◌≡◌, ◌≢◌, ℕ, zero, suc, ◌<◌, Bool, true, false, not, ◌==◌, get_or, refl, sym, ap, ◌∙◌, arith, if◌then◌else◌, Option, Some, None}
+-- What a turn was: an instruction is carried out only by a hart that runs in a live domain, and not at a call gate, by a return, a call or
+-- a fault.
+use Rattle.std.proofs.Common.{◌≡◌, ◌≢◌, ℕ, zero, suc, ◌<◌, Bool, true, false, not, ◌==◌, get_or, refl, sym, ap, ◌∙◌, arith, if◌then◌else◌}
+use Rattle.std.proofs.Common.{Option, Some, None}
 use Rattle.std.specs.Option.{option_map_or}
 use Rattle.mx_check.specs.Harts.{kept_at}
 use Rattle.mx_model.specs.declared.values.Call.{Call}
@@ -12,7 +14,8 @@ use Rattle.mx_model.specs.Gates.{top}
 use Rattle.mx_model.specs.Run.{flat_kind}
 use Rattle.mx_model.specs.State.{module_at}
 use Rattle.mx_model.specs.State.{Hart as Seen}
-use Rattle.mx_model.specs.Turn.{Asks, Bounces, Crosses, Decided, Made, Returns, Traps, at_gate, at_return, returned_over, traps, without_look}
+use Rattle.mx_model.specs.Turn.{Asks, Bounces, Crosses, Decided, Made, Returns, Traps, at_gate, at_return, returned_over, traps}
+use Rattle.mx_model.specs.Turn.{without_look}
 use Rattle.mx_model.proofs.TurnCases.{ready, turned-dead, turned-serves, turned-waits}
 use Rattle.mx_machine.specs.declared.hart.Progress.{Progress}
 use Rattle.mx_machine.specs.declared.hart.Progress.TheVariants as G
@@ -48,10 +51,15 @@ crossed-ended e = cc
 pub asks-ended : (m : Held) (h : ℕ) (call : Call) → (made_by m h (Asks call)).kind ≢ T.Ran
 asks-ended m h call = search (arith, called-ended)
 
-over-ended : (m : Held) (h rd target : ℕ) (o : Option Frame) → (made_by m h (option_map_or (returned_over rd target) o (Traps 18 target))).kind ≢ T.Ran
+over-ended : (m : Held) (h rd target : ℕ) (o : Option Frame) → (made_by m h
+    (option_map_or (returned_over rd target) o (Traps 18 target))).kind ≢ T.Ran
 over-ended m h rd target None = trapped-ended
 over-ended m h rd target (Some frame) =
-    elim (frame.back == target) as (λ b. (made_by m h (if b then Returns rd frame else Traps 17 target)).kind ≢ T.Ran) [ true ↦ returned-ended | false ↦ trapped-ended ]
+    elim (frame.back == target) as (λ b. (made_by m h (if b then Returns rd frame else Traps 17 target)).kind ≢ T.Ran) [
+      | true ↦
+          returned-ended
+      | false ↦ trapped-ended
+    ]
 
 pub return-ended : (m : Held) (h rd target : ℕ) → (made_by m h (at_return (hart_in m h) rd target)).kind ≢ T.Ran
 return-ended m h rd target = over-ended m h rd target (top (hart_in m h).frames)
@@ -72,7 +80,8 @@ gate-ended m h t = search (arith, gate-by-ended)
 
 -- a hart that is halted, waits or runs in a dead domain carries out no instruction
 module _ (m : Held) (h : ℕ) (w : IsWhole m) (ran : flat_kind (meaning m) h ≡ T.Ran) where
-  status-is : (p : Progress) → (hart_among m.harts h).progress ≡ p → (hart_in m h).status ≡ status_by (own_call h (hart_among m.harts h)) (kept_at m.parts.harts h).flight p
+  status-is : (p : Progress) → (hart_among m.harts h).progress ≡ p
+      → (hart_in m h).status ≡ status_by (own_call h (hart_among m.harts h)) (kept_at m.parts.harts h).flight p
   status-is p at = search (arith, hart-in, m.harts, m.parts.harts)
 
   ran-halted : (code : Option ℕ) → (hart_among m.harts h).progress ≡ G.Halted code → ⊥
@@ -80,21 +89,26 @@ module _ (m : Held) (h : ℕ) (w : IsWhole m) (ran : flat_kind (meaning m) h ≡
       let e : T.Idle ≡ T.Ran = sym (ap (λ (d : Made). d.kind) (turn-halted m h code at)) ∙ ran in
       cc
 
-  ran-waiting-by : (b : Bool) → (hart_among m.harts h).progress ≡ G.Waiting → is_ready (ready (core_in m) h) h (hearers (kept_at m.parts.harts h).flight) ≡ b → ⊥
+  ran-waiting-by : (b : Bool) → (hart_among m.harts h).progress ≡ G.Waiting
+      → is_ready (ready (core_in m) h) h (hearers (kept_at m.parts.harts h).flight) ≡ b → ⊥
   ran-waiting-by true at e =
       called-ended
-      (sym (ap (λ (d : Made). d.kind) (turned-serves (reads_of m) (core_in m) h (hart_in m h) (own_call h (hart_among m.harts h)) (hearers (kept_at m.parts.harts h).flight) refl (status-is G.Waiting at) e)) ∙ ran)
+      (sym (ap (λ (d : Made). d.kind) (turned-serves (reads_of m) (core_in m) h (hart_in m h) (own_call h (hart_among m.harts h))
+      (hearers (kept_at m.parts.harts h).flight) refl (status-is G.Waiting at) e)) ∙ ran)
   ran-waiting-by false at e =
       let k : T.Waited ≡ T.Ran =
-      sym (ap (λ (d : Made). d.kind) (turned-waits (reads_of m) (core_in m) h (hart_in m h) (own_call h (hart_among m.harts h)) (hearers (kept_at m.parts.harts h).flight) refl (status-is G.Waiting at) e)) ∙ ran in
+      sym (ap (λ (d : Made). d.kind) (turned-waits (reads_of m) (core_in m) h (hart_in m h) (own_call h (hart_among m.harts h))
+      (hearers (kept_at m.parts.harts h).flight) refl (status-is G.Waiting at) e)) ∙ ran in
       cc
 
   ran-live : (b : Bool) → (hart_among m.harts h).progress ≡ G.Running → get_or m.dead (hart_among m.harts h).domain false ≡ b → b ≡ false
   ran-live true at e =
       let d = (hart_among m.harts h).domain in
       let own = own-domain m h w.valid w.fits (hart-there m h w G.Running at refl) in
-      let dead = ap (λ (y : Seen). (module_at (core_in m) y.domain).dead) (hart-in m h) ∙ module-dead m d w.fits (here m d w.fits own) ∙ e in
-      absurd (trapped-ended (sym (ap (λ (d : Made). d.kind) (turned-dead (reads_of m) (core_in m) h (hart_in m h) refl (status-is G.Running at) dead)) ∙ ran))
+      let dead = ap (λ (y : Seen). (module_at (core_in m) y.domain).dead) (hart-in m h) ∙ module-dead m d w.fits (here m d w.fits own)
+      ∙ e in
+      absurd (trapped-ended (sym (ap (λ (d : Made). d.kind) (turned-dead (reads_of m) (core_in m) h (hart_in m h) refl
+      (status-is G.Running at) dead)) ∙ ran))
   ran-live false at e = refl
 
   ran-by : (p : Progress) → (hart_among m.harts h).progress ≡ p → RunsAlive m h
@@ -104,6 +118,7 @@ module _ (m : Held) (h : ℕ) (w : IsWhole m) (ran : flat_kind (meaning m) h ≡
   ran-alive = ran-by (hart_among m.harts h).progress refl
 
 -- a row that ends with an instruction was begun by a hart that ran in a live domain
-pub ran-first : (m : Held) (h room : ℕ) → IsWhole m → (0 < room → RunsAlive m h) → flat_kind (turns_of h (meaning m) room) h ≡ T.Ran → RunsAlive m h
+pub ran-first : (m : Held) (h room : ℕ) → IsWhole m → (0 < room → RunsAlive m h) → flat_kind (turns_of h (meaning m) room) h ≡ T.Ran
+    → RunsAlive m h
 ran-first m h zero w alive ran = ran-alive m h w ran
 ran-first m h (suc n) w alive ran = alive (omega arith)

@@ -1,5 +1,6 @@
 -- Looks: what a hart's checks leave in the checker is what its looks leave in the state.
-use Rattle.std.proofs.Common.{◌≡◌, ◌≢◌, ℕ, ◌<◌, Bool, List, [], ◌∷◌, length, get_or, set, refl, sym, ap, subst, ◌∙◌, arith, Option, Some, None}
+use Rattle.std.proofs.Common.{◌≡◌, ◌≢◌, ℕ, ◌<◌, Bool, List, [], ◌∷◌, length, get_or, set, refl, sym, ap, subst, ◌∙◌, arith, Option, Some}
+use Rattle.std.proofs.Common.{None}
 use Rattle.std.proofs.Common.{map as list_map}
 use Rattle.std.specs.Prelude.{IfSome}
 use Rattle.std.specs.List.{list_any}
@@ -56,7 +57,9 @@ module _ (rest : Core) (p : Parts) (h d : ℕ) (dom : IsDomain p.maps d) (whole 
       (caches-step kept h (looks p.buffer place d w s b)
       ∙ ap (λ (c : Cache). set cs h (checked p.buffer place d w s b c)) (sym (caches-at kept h))
       ∙ ap (λ (x : Bool). set cs h (checked p.buffer place d w s x (get_or cs h no_cache))) (sym (bars s))
-      ∙ ap (λ (n : List Perm). let u = span p.kind n w in set cs h (checked p.buffer place d w u (list_any (λ (r : ℕ × ℕ). meets u r.0 r.1) (heard_ranges (core_of rest p) h)) (get_or cs h no_cache)))
+      ∙ ap (λ (n : List Perm). let u = span p.kind n w in set cs h
+      (checked p.buffer place d w u (list_any (λ (r : ℕ × ℕ). meets u r.0 r.1) (heard_ranges (core_of rest p) h))
+      (get_or cs h no_cache)))
       (sym (map-in p.size p.maps d dom)))
 
   one-look : (kept : List Kept) (place address : ℕ) → Bars kept →
@@ -66,7 +69,8 @@ module _ (rest : Core) (p : Parts) (h d : ℕ) (dom : IsDomain p.maps d) (whole 
       ∙ at-word kept place (word_of address p.size) bars
 
   -- what a check keeps
-  bars-at : (kept : List Kept) (place : ℕ) (o : Option ℕ) (s : Span) → is_forbidden h s (looked_at p.buffer p.kind (map_of p.maps d) h place d o kept) ≡ is_forbidden h s kept
+  bars-at : (kept : List Kept) (place : ℕ) (o : Option ℕ) (s : Span)
+      → is_forbidden h s (looked_at p.buffer p.kind (map_of p.maps d) h place d o kept) ≡ is_forbidden h s kept
   bars-at kept place None s = is_forbidden-same h s kept (with_domain d)
   bars-at kept place (Some w) s =
       let u = span p.kind (map_of p.maps d) w in
@@ -76,7 +80,8 @@ module _ (rest : Core) (p : Parts) (h d : ℕ) (dom : IsDomain p.maps d) (whole 
   bars-still kept place address bars s = bars s ∙ sym (bars-at kept place (word_of address (length (map_of p.maps d))) s)
 
   pub looks-core : (ts : List Touch) (kept : List Kept) → Bars kept →
-      core_of rest (record p { harts = looks_all p h d ts kept }) ≡ looked_all (flat_reads (flat_of rest p)) h (looks_of (core_of rest p) d ts) (core_of rest (record p { harts = kept }))
+      core_of rest (record p { harts = looks_all p h d ts kept })
+      ≡ looked_all (flat_reads (flat_of rest p)) h (looks_of (core_of rest p) d ts) (core_of rest (record p { harts = kept }))
   looks-core [] kept bars = refl
   looks-core (t ∷ ts) kept bars =
       let next = checks t.place t.address kept in

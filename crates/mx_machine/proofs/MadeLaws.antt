@@ -1,5 +1,6 @@
 -- The deeds of a running hart: each part of a turn makes what the model's action makes, and leaves all fitting.
-use Rattle.std.proofs.Common.{◌≡◌, ℕ, ◌<◌, Bool, true, false, List, [], length, refl, sym, ap, subst, ◌∙◌, arith, Option, Some, None, unwrap_or}
+use Rattle.std.proofs.Common.{◌≡◌, ℕ, ◌<◌, Bool, true, false, List, [], length, refl, sym, ap, subst, ◌∙◌, arith, Option, Some, None}
+use Rattle.std.proofs.Common.{unwrap_or}
 use Rattle.std.specs.Prelude.{slice_set}
 use Rattle.std.proofs.lemmas.List.{length-set}
 use Rattle.mx_table.specs.Tables.{IsDomain}
@@ -86,15 +87,18 @@ fits-trap m h cause r = search (arith, step-fits, r.act, dead-count, fall-tied, 
 
 fall-core : (m : Held) (h cause : ℕ) (o : Option Frame) → MayRun m h →
     let x = hart_among m.harts h in
-    core_in (changed m h (gives_up_over cause x o) (at_hart h (gives_up_kept o) m.parts.harts) m.parts.ram (dead_after m.dead x.domain (kills_by m x.domain cause)) m.waiting)
+    core_in (changed m h (gives_up_over cause x o) (at_hart h (gives_up_kept o) m.parts.harts) m.parts.ram
+    (dead_after m.dead x.domain (kills_by m x.domain cause)) m.waiting)
     ≡ given_up (killed_in x.domain cause (core_in m)) h (seen h x (kept_at m.parts.harts h)) cause o
 fall-core m h cause None r =
     let x = hart_among m.harts h in
     let k = killed x.domain cause m in
     let s = seen h x (kept_at m.parts.harts h) in
     let end : Seen = record s { status = Halted None } in
-    core-step k h (gives_up_over cause x None) (record m.parts { harts = at_hart h counts_as_halted m.parts.harts }) (fly-step m.parts.harts h counts_as_halted)
-    ∙ ap (with_hart h end) (core-kept (rest_of k) m.parts h counts_as_halted refl ∙ core-killed m x.domain cause r.act.fits (here m x.domain r.act.fits r.act.domain))
+    core-step k h (gives_up_over cause x None) (record m.parts { harts = at_hart h counts_as_halted m.parts.harts })
+    (fly-step m.parts.harts h counts_as_halted)
+    ∙ ap (with_hart h end) (core-kept (rest_of k) m.parts h counts_as_halted refl
+    ∙ core-killed m x.domain cause r.act.fits (here m x.domain r.act.fits r.act.domain))
 fall-core m h cause (Some f) r =
     let x = hart_among m.harts h in
     let k = killed x.domain cause m in
@@ -107,7 +111,8 @@ fall-core m h cause (Some f) r =
 pub made-trap : (m : Held) (h cause value : ℕ) → MayRun m h →
     let x = hart_among m.harts h in
     IsMade m (fallen h cause (killed x.domain cause m))
-    (record { bytes = []; note = Some (N.Fault m.steps h x.domain x.pc (record { cause = cause; value = value })) }) T.Trapped (made_by m h (Traps cause value))
+    (record { bytes = []; note = Some (N.Fault m.steps h x.domain x.pc (record { cause = cause; value = value })) }) T.Trapped
+    (made_by m h (Traps cause value))
 made-trap m h cause value r = search (arith, hart-in, fall-core)
 
 -- a dead target
@@ -127,7 +132,8 @@ fits-bounce m h pc value r =
     fits-change m h (goes (slice_set x.regs 10 value) pc x) m.parts.harts m.parts.ram m.dead m.waiting c
 
 pub made-bounce : (m : Held) (h link : ℕ) → MayRun m h → link ≡ reg (hart_among m.harts h).regs 1 →
-    IsMade m (with_step h (goes (slice_set (hart_among m.harts h).regs 10 (fault_answer 20)) link) m) (record { bytes = []; note = None }) T.Returned (made_by m h Bounces)
+    IsMade m (with_step h (goes (slice_set (hart_among m.harts h).regs 10 (fault_answer 20)) link) m) (record { bytes = []; note = None })
+    T.Returned (made_by m h Bounces)
 made-bounce m h link r l = search (arith, m.harts, core-step, m.parts, hart-in)
 
 -- a crossing
@@ -144,7 +150,8 @@ made-cross m h target r t =
     record {
       core = core-step m h y (record m.parts { harts = at_hart h leaves_domain m.parts.harts }) (fly-step m.parts.harts h leaves_domain)
           ∙ ap (with_hart h (seen h y (kept_at m.parts.harts h))) (core-left (rest_of m) m.parts h)
-          ∙ ap (λ (a : ℕ). empties_places h (with_hart h (seen h (enters target (unwrap_or (nearest x.frames target) a) x) (kept_at m.parts.harts h)) (core_in m)))
+          ∙ ap (λ (a : ℕ). empties_places h (with_hart h (seen h (enters target (unwrap_or (nearest x.frames target) a) x)
+          (kept_at m.parts.harts h)) (core_in m)))
           (sym (stack-behind m target h r.act.fits (here m target r.act.fits t)))
           ∙ sym (ap (λ (s : Seen). crossed_in (core_in m) h s target) (hart-in m h));
       maps = refl;
@@ -158,8 +165,10 @@ made-cross m h target r t =
 pub fits-return : (m : Held) (h rd : ℕ) (f : Frame) → MayRun m h → top (hart_among m.harts h).frames ≡ Some f → Fits (returned h rd m)
 fits-return m h rd f r e =
     let x = hart_among m.harts h in
-    subst (λ (o : Option Frame). Fits (changed m h (returns_by rd x o) (at_hart h leaves_domain m.parts.harts) m.parts.ram m.dead m.waiting)) (sym e)
-    (step-fits m h (returns_by rd x (Some f)) leaves_domain m.dead r.act r.act.fits.dead (record { halted = running-kept m h r; flight = running-free m h r; domain = tt }) refl)
+    subst (λ (o : Option Frame). Fits (changed m h (returns_by rd x o) (at_hart h leaves_domain m.parts.harts) m.parts.ram m.dead
+    m.waiting)) (sym e)
+    (step-fits m h (returns_by rd x (Some f)) leaves_domain m.dead r.act r.act.fits.dead
+    (record { halted = running-kept m h r; flight = running-free m h r; domain = tt }) refl)
 
 pub made-return : (m : Held) (h rd : ℕ) (f : Frame) → MayRun m h → top (hart_among m.harts h).frames ≡ Some f →
     IsMade m (returned h rd m) (record { bytes = []; note = None }) T.Returned (made_by m h (Returns rd f))
@@ -167,7 +176,8 @@ made-return m h rd f r e =
     let x = hart_among m.harts h in
     let y = returns_by rd x (Some f) in
     record {
-      core = ap (λ (o : Option Frame). core_in (changed m h (returns_by rd x o) (at_hart h leaves_domain m.parts.harts) m.parts.ram m.dead m.waiting)) e
+      core = ap (λ (o : Option Frame). core_in (changed m h (returns_by rd x o) (at_hart h leaves_domain m.parts.harts) m.parts.ram m.dead
+          m.waiting)) e
           ∙ core-step m h y (record m.parts { harts = at_hart h leaves_domain m.parts.harts }) (fly-step m.parts.harts h leaves_domain)
           ∙ ap (with_hart h (seen h y (kept_at m.parts.harts h))) (core-left (rest_of m) m.parts h)
           ∙ sym (ap (λ (s : Seen). over_frame (core_in m) h s f (written s.regs rd (next s.pc))) (hart-in m h));

@@ -24,7 +24,8 @@ alike_span m i s r =
     let right = r.right in
     record { behind = right; within = r.inside; alike = λ w lo hi. r.alike w (omega arith) hi ∙ round_perm m i s r }
 
-pub alike_more : (m : List Perm) (i end : ℕ) (s : Span) → IsAlike m i end → IsUniformRound m end s → s.perm ≡ perm_at m i → IsAlike m i (s.first + s.count)
+pub alike_more : (m : List Perm) (i end : ℕ) (s : Span) → IsAlike m i end → IsUniformRound m end s → s.perm ≡ perm_at m i
+    → IsAlike m i (s.first + s.count)
 alike_more m i end s a r e =
     let behind = a.behind in
     let left = r.left in
@@ -40,5 +41,6 @@ pub round_other : (m : List Perm) (i end : ℕ) (s : Span) → IsUniformRound m 
 round_other m i end s r ne = λ e. ne (round_perm m end s r ∙ e)
 
 -- what a walk answers in a flat state
-pub walk_round : (f : Flat) (d i : ℕ) (s : Span) → s ≡ (flat_reads f).walk d i → length (map_in f.core.size f.maps d) ≡ f.core.size → i < f.core.size → IsUniformRound (map_in f.core.size f.maps d) i s
+pub walk_round : (f : Flat) (d i : ℕ) (s : Span) → s ≡ (flat_reads f).walk d i → length (map_in f.core.size f.maps d) ≡ f.core.size
+    → i < f.core.size → IsUniformRound (map_in f.core.size f.maps d) i s
 walk_round f d i s e whole lt = search (arith, f.core.size, f.maps, span_round, f.core.kind)

@@ -1,4 +1,5 @@
--- What a turn may rest on: a hart that isn't halted is there, stands at an instruction of a module, and acts once it has heard the others' calls.
+-- What a turn may rest on: a hart that isn't halted is there, stands at an instruction of a module, and acts once it has heard the others'
+-- calls.
 use Rattle.std.proofs.Common.{◌≡◌, ℕ, zero, suc, ◌<◌, ◌%◌, false, List, [], ◌∷◌, length, refl, sym, ap, subst, ◌∙◌, arith, Option, None}
 use Rattle.mx_table.specs.Tables.{IsDomain}
 use Rattle.mx_check.specs.declared.flight.Flight.{Flight}
@@ -32,11 +33,13 @@ there-alive (x ∷ xs) (suc h) e = let l : h < length xs = there-alive xs h e in
 pub aligned-pc : (m : Held) (h : ℕ) → IsValid (core_in m) → h < length m.harts → (hart_among m.harts h).pc % 4 ≡ 0
 aligned-pc m h v there = search (arith, hart-in, v.harts, length-seen, m.harts)
 
-pub own-domain : (m : Held) (h : ℕ) → IsValid (core_in m) → Fits m → h < length m.harts → IsDomain m.parts.maps (hart_among m.harts h).domain
+pub own-domain : (m : Held) (h : ℕ) → IsValid (core_in m) → Fits m → h < length m.harts
+    → IsDomain m.parts.maps (hart_among m.harts h).domain
 own-domain m h v f there = search (arith, v.harts, length-seen, m.harts, hart-in, length-modules)
 
 -- where no hart may wait, no call is in flight
-still-free : (range : ℕ × ℕ) (flight : Option Flight) (p : Progress) → FliesWhileWaiting range flight p → is_waiting p ≡ false → flight ≡ None
+still-free : (range : ℕ × ℕ) (flight : Option Flight) (p : Progress) → FliesWhileWaiting range flight p → is_waiting p ≡ false
+    → flight ≡ None
 still-free range flight G.Running t e = t
 still-free range flight G.Waiting t e = absurd (let z : ⊥ = cc in z)
 still-free range flight (G.Halted code) t e = t
@@ -45,7 +48,8 @@ pub none-flies : (m : Held) → Fits m → m.waiting ≡ false → (i : ℕ) →
 none-flies m f q i = search (arith, still-free, m.parts, m.harts, m.parts.harts, f.ties, f.quiet)
 
 -- a halted hart rests in a turn that counts
-pub made-idle : (m : Held) (h : ℕ) (code : Option ℕ) → (hart_among m.harts h).progress ≡ G.Halted code → IsMade m (counted m) no_events T.Idle (flat_made (meaning m) h)
+pub made-idle : (m : Held) (h : ℕ) (code : Option ℕ) → (hart_among m.harts h).progress ≡ G.Halted code
+    → IsMade m (counted m) no_events T.Idle (flat_made (meaning m) h)
 made-idle m h code e =
     subst (λ d. IsMade m (counted m) no_events T.Idle d) (sym (turn-halted m h code e))
     (record { core = core-counted m; maps = refl; owners = refl; console = refl; note = refl; kind = refl })
@@ -60,7 +64,8 @@ module _ (m : Held) (h : ℕ) (w : IsWhole m) (p : Progress) (at : (hart_among m
 
   -- it may hear them
   pub may-hear : (n : Held) → n ≡ m →
-      (h < length n.parts.harts) × (((kept_at n.parts.harts h).halted ≡ false) × (n.waiting ≡ false → (i : ℕ) → (kept_at n.parts.harts i).flight ≡ None))
+      (h < length n.parts.harts) × (((kept_at n.parts.harts h).halted ≡ false) × (n.waiting ≡ false → (i : ℕ)
+      → (kept_at n.parts.harts i).flight ≡ None))
   may-hear n is = search (arith, m.parts.harts, hart-there, kept-alive, none-flies)
 
   acts-heard : HasHeardAll h (heard h (counted m)).parts.harts → MayAct (heard h (counted m)) h
@@ -81,7 +86,8 @@ module _ (m : Held) (h : ℕ) (w : IsWhole m) (p : Progress) (at : (hart_among m
     stands-now = ap (λ (n : Held). (hart_among n.harts h).progress) is ∙ at
 
     -- what it makes then is what the turn makes
-    pub made-now : (new : Held) (events : Events) (answer : TurnKind) → flat_made (meaning m) h ≡ made_after_hearing (heard h (counted m)) h →
+    pub made-now : (new : Held) (events : Events) (answer : TurnKind)
+        → flat_made (meaning m) h ≡ made_after_hearing (heard h (counted m)) h →
         IsMade old new events answer (made_after_hearing old h) → IsMade m new events answer (flat_made (meaning m) h)
     made-now new events answer turn i =
         let j = subst (λ (n : Held). IsMade n new events answer (made_after_hearing n h)) is i in

@@ -1,5 +1,6 @@
 -- What is read of a machine is what its state says.
-use Rattle.std.proofs.Common.{◌≡◌, ℕ, ◌+◌, ◌<◌, ◌==◌, ◌&&◌, cond, eq-eqb, List, [], ◌∷◌, length, refl, sym, ap, ◌∙◌, arith, Option, Some, None}
+use Rattle.std.proofs.Common.{◌≡◌, ℕ, ◌+◌, ◌<◌, ◌==◌, ◌&&◌, cond, eq-eqb, List, [], ◌∷◌, length, refl, sym, ap, ◌∙◌, arith, Option, Some}
+use Rattle.std.proofs.Common.{None}
 use Rattle.std.specs.List.{list_all}
 use Rattle.std.proofs.lemmas.Bool.{ne_eqb}
 use Rattle.mx_table.specs.Tables.{IsDomain, map_of}
@@ -22,7 +23,8 @@ use Rattle.mx_machine.specs.declared.views.HartView.{HartView}
 use Rattle.mx_machine.specs.Harts.{hart_among, is_halted, own_call, seen_from, status_by}
 use Rattle.mx_machine.specs.Held.{Held, area_of, rest_of}
 use Rattle.mx_machine.specs.Made.{core_in, hart_in}
-use Rattle.mx_machine.specs.Readings.{IsAreaOf, IsPlaceOf, IsViewOf, TellsHart, TellsPlace, status_by_progress, status_told, was_heard}
+use Rattle.mx_machine.specs.Readings.{IsAreaOf, IsPlaceOf, IsViewOf, TellsHart, TellsPlace, exit_by_progress, exit_of, status_by_progress}
+use Rattle.mx_machine.specs.Readings.{status_told, was_heard}
 use Rattle.mx_machine.specs.Ties.{Fits, FliesWhileWaiting}
 use Rattle.mx_machine.proofs.HartsAt.{hart-in, length-seen}
 use Rattle.mx_machine.proofs.HomeLaws.{IsHere, module-is}
@@ -46,7 +48,8 @@ module _ (m : Held) (f : Fits m) where
 
   -- a stack area, with its beginning where it has words
   pub area-told : (d : ℕ) (a : StackArea) → IsModule (length (core_in m).modules) d →
-      a ≡ record (area_of m.stacks d) { first = cond ((area_of m.stacks d).words == 0) 0 (area_of m.stacks d).first } → IsAreaOf (module_at (core_in m) d) a
+      a ≡ record (area_of m.stacks d) { first = cond ((area_of m.stacks d).words == 0) 0 (area_of m.stacks d).first }
+      → IsAreaOf (module_at (core_in m) d) a
   area-told d a i e =
       let is = module-is m d f (here-in d i) in
       search arith
@@ -68,6 +71,11 @@ status-seen call flight G.Running = refl
 status-seen call flight G.Waiting = refl
 status-seen call flight (G.Halted code) = refl
 
+exit-seen : (call : Call) (flight : Option Flight) (g : Progress) → exit_by_progress g ≡ exit_of (status_by call flight g)
+exit-seen call flight G.Running = refl
+exit-seen call flight G.Waiting = refl
+exit-seen call flight (G.Halted code) = refl
+
 -- a hart that is told
 pub view-told : (m : Held) (h : ℕ) (view : HartView) → TellsHart (hart_among m.harts h) view → IsViewOf (hart_in m h) view
 view-told m h view t = search (arith, hart-in, status-seen, m.harts, m.parts.harts)
@@ -78,8 +86,13 @@ place-told m h place t = search (arith, hart-in, status-seen, m.harts, m.parts.h
 pub regs-told : (m : Held) (h : ℕ) (regs : List ℕ) → regs ≡ (hart_among m.harts h).regs → regs ≡ (hart_in m h).regs
 regs-told m h regs e = search (arith, hart-in, m.harts, m.parts.harts)
 
+pub exit-told : (m : Held) (h : ℕ) (code : Option ℕ) → code ≡ exit_by_progress (hart_among m.harts h).progress
+    → code ≡ exit_of (hart_in m h).status
+exit-told m h code e = search (arith, hart-in, exit-seen, m.harts, m.parts.harts)
+
 -- who has heard the call on which a hart waits
-heard-seen : (range : ℕ × ℕ) (call : Call) (by : ℕ) (o : Option Flight) (g : Progress) → FliesWhileWaiting range o g → has_heard o by ≡ was_heard (status_by call o g) by
+heard-seen : (range : ℕ × ℕ) (call : Call) (by : ℕ) (o : Option Flight) (g : Progress) → FliesWhileWaiting range o g
+    → has_heard o by ≡ was_heard (status_by call o g) by
 heard-seen range call by o G.Running e = ap (λ (x : Option Flight). has_heard x by) e
 heard-seen range call by None G.Waiting e = absurd e
 heard-seen range call by (Some x) G.Waiting e = refl
@@ -93,7 +106,8 @@ pub all-halted : (n : ℕ) (xs : List Hart) (kept : List Kept) →
     list_all (λ (y : Seen). stands_halted y.status) (seen_from n xs kept) ≡ list_all (λ (x : Hart). is_halted x.progress) xs
 all-halted n [] kept = refl
 all-halted n (x ∷ xs) kept =
-    ap (λ b. b && list_all (λ (y : Seen). stands_halted y.status) (seen_from (n + 1) xs kept)) (halted-seen (own_call n x) (kept_at kept n).flight x.progress)
+    ap (λ b. b && list_all (λ (y : Seen). stands_halted y.status) (seen_from (n + 1) xs kept))
+    (halted-seen (own_call n x) (kept_at kept n).flight x.progress)
     ∙ ap (λ b. is_halted x.progress && b) (all-halted (n + 1) xs kept)
 
 -- a hart of the state is one that the checker keeps

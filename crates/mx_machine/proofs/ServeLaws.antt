@@ -1,5 +1,6 @@
 -- A served call: the machine after it is the state after the model's call, and fits.
-use Rattle.std.proofs.Common.{◌≡◌, ◌≢◌, ℕ, ◌-◌, ◌<◌, ◌≤◌, ◌⊎◌, inl, inr, Bool, true, false, cond, List, [], ◌∷◌, length, get_or, set, refl, sym, ap, subst, ◌∙◌, arith, Option, Some, None}
+use Rattle.std.proofs.Common.{◌≡◌, ◌≢◌, ℕ, ◌-◌, ◌<◌, ◌≤◌, ◌⊎◌, inl, inr, Bool, true, false, cond, List, [], ◌∷◌, length, get_or, set, refl}
+use Rattle.std.proofs.Common.{sym, ap, subst, ◌∙◌, arith, Option, Some, None}
 use Rattle.std.specs.Prelude.{IfSome}
 use Rattle.std.proofs.lemmas.Bool.{cases_eq}
 use Rattle.std.proofs.lemmas.List.{get_or-set_same, get_or-set_other, length-set}
@@ -10,7 +11,8 @@ use Rattle.mx_check.specs.Harts.{halts as counts_as_halted}
 use Rattle.mx_model.specs.declared.values.Call.{Call}
 use Rattle.mx_model.specs.Checks.{Look, looked_all}
 use Rattle.mx_model.specs.Reads.{Reads}
-use Rattle.mx_model.specs.Serve.{Served, Service, judged, serve, served_by, write_from, write_looks, exchange_from, with_blocks, look_of, arg_word, alloc_from}
+use Rattle.mx_model.specs.Serve.{Served, Service, judged, serve, served_by, write_from, write_looks, exchange_from, with_blocks, look_of}
+use Rattle.mx_model.specs.Serve.{arg_word, alloc_from}
 use Rattle.mx_model.specs.State.{Core, Module, no_module, module_at}
 use Rattle.mx_model.proofs.SetLaws.{part-set}
 use Rattle.mx_model.proofs.ValidParts.{same-modules-looked_all}
@@ -52,7 +54,8 @@ heaps-judged c e (Some n) s p q = p
 heaps-judged c e None s p q = q
 
 heaps-blocks : (call : Call) (blocks : List Area) (c : Core) → SameHeaps c (with_blocks call blocks c)
-heaps-blocks call blocks c d = part-set (λ (m : Module). m.heap) c.modules (call.domain - 1) (d - 1) (record (module_at c call.domain) { blocks = blocks }) no_module refl
+heaps-blocks call blocks c d = part-set (λ (m : Module). m.heap) c.modules (call.domain - 1) (d - 1)
+    (record (module_at c call.domain) { blocks = blocks }) no_module refl
 
 heaps-alloc : (c : Core) (call : Call) (first : ℕ) (o : Option ℕ) → SameHeaps c (alloc_from c call first o).core
 heaps-alloc c call first (Some n) d = refl
@@ -74,14 +77,16 @@ heaps-served : (k : Service) (r : Reads) (c : Core) (call : Call) → SameHeaps 
 heaps-served x r c call =
     grind (arith, heaps-judged, heaps-refl, heaps-written, heaps-alloc, heaps-blocks, heaps-exchanged)
 
-heaps-ended : (c : Core) (call : Call) (s : Served) (b : Bool) → SameHeaps c s.core → (s' : Served) → SameHeaps c s'.core → SameHeaps c (cond b s' s).core
+heaps-ended : (c : Core) (call : Call) (s : Served) (b : Bool) → SameHeaps c s.core → (s' : Served) → SameHeaps c s'.core
+    → SameHeaps c (cond b s' s).core
 heaps-ended c call s x p t q = grind arith
 
 pub heaps-serve : (r : Reads) (c : Core) (call : Call) → SameHeaps c (serve r c call).core
 heaps-serve r c call = search (arith, heaps-served, heaps-ended)
 
 -- the ranges of calls stay
-pub range-served : (rest : Core) (p q : Parts) (e : Core) (call : Call) → q.size ≡ p.size → core_of rest q ≡ e → SameHeaps (core_of rest p) e →
+pub range-served : (rest : Core) (p q : Parts) (e : Core) (call : Call) → q.size ≡ p.size → core_of rest q ≡ e
+    → SameHeaps (core_of rest p) e →
     range_of q call ≡ range_of p call
 range-served rest p q e call size core same = search (arith, q.heaps, p.heaps, module-heap, call.number, p.size)
 
@@ -91,7 +96,8 @@ serving-bars m h call v = subst (λ i. BarsAlike (rest_of m) m.parts i) (sym (ap
 
 -- what is made of equal machines with equal events
 pub served-moved : (m m' n n' : Held) (e e' : Events) (h : ℕ) (call : Call) → m ≡ m' → n ≡ n' → e ≡ e' →
-    IsMade m n e T.Called (served (reads_of m) (core_in m) h (hart_in m h) call) → IsMade m' n' e' T.Called (served (reads_of m') (core_in m') h (hart_in m' h) call)
+    IsMade m n e T.Called (served (reads_of m) (core_in m) h (hart_in m h) call)
+    → IsMade m' n' e' T.Called (served (reads_of m') (core_in m') h (hart_in m' h) call)
 served-moved m m' n n' e e' h call p q r i = grind arith
 
 -- a machine whose supervisor served a call of hart h, with this answer
@@ -117,7 +123,8 @@ module _ (m : Held) (h : ℕ) (call : Call) (q : Parts) (bytes : List ℕ) (a : 
   ranges-stay c = range-served (rest_of m) m.parts q s.core c z.size d.core (heaps-serve (reads_of m) (core_in m) call)
 
   own-halted : (kept_at q.harts h).halted ≡ false
-  own-halted = ap (λ i. (kept_at q.harts i).halted) (sym hart-is) ∙ k.halted ∙ ap (λ i. (kept_at m.parts.harts i).halted) hart-is ∙ v.running
+  own-halted = ap (λ i. (kept_at q.harts i).halted) (sym hart-is) ∙ k.halted ∙ ap (λ i. (kept_at m.parts.harts i).halted) hart-is
+      ∙ v.running
 
   flight-ended : (b : Bool) → is_announced call.number ≡ b → cond b None (kept_at m.parts.harts call.hart).flight ≡ None
   flight-ended x e = grind arith
@@ -166,23 +173,35 @@ module _ (m : Held) (h : ℕ) (call : Call) (q : Parts) (bytes : List ℕ) (a : 
 
   -- the hart goes on
   pub fits-answered : Fits (record m { parts = q; harts = set m.harts h (takes_answer a.a0 a.a1 (hart_among m.harts h)) })
-  fits-answered = served-fits (takes_answer a.a0 a.a1 x) q.harts refl (λ i ne. refl) (record { halted = own-halted; flight = own-flight; domain = own-domain }) refl
+  fits-answered = served-fits (takes_answer a.a0 a.a1 x) q.harts refl (λ i ne. refl)
+      (record { halted = own-halted; flight = own-flight; domain = own-domain }) refl
 
   pub made-answered : a.stop ≡ false →
-      IsMade m (record m { parts = q; harts = set m.harts h (takes_answer a.a0 a.a1 (hart_among m.harts h)) }) (record { bytes = bytes; note = None }) T.Called
+      IsMade m (record m { parts = q; harts = set m.harts h (takes_answer a.a0 a.a1 (hart_among m.harts h)) })
+      (record { bytes = bytes; note = None }) T.Called
       (served (reads_of m) (core_in m) h (hart_in m h) call)
   made-answered e = grind (arith, x, m.parts.harts, core-step, a.a0, a.a1, fly-alike, s.a0, hart-in, s.core.turns)
 
   -- or it ended
-  pub fits-ended : Fits (record m { parts = record q { harts = at_hart h counts_as_halted q.harts }; harts = set m.harts h (halts (Some a.a0) (hart_among m.harts h)) })
+  pub fits-ended : Fits (record m {
+    parts = record q { harts = at_hart h counts_as_halted q.harts };
+    harts =
+        set m.harts h (halts (Some a.a0) (hart_among m.harts h));
+  })
   fits-ended =
       let there : h < length q.harts = omega (arith, v.there, v.count, k.count) in
       let own = own-step q.harts h counts_as_halted there in
-      served-fits (halts (Some a.a0) x) (at_hart h counts_as_halted q.harts) (count-step q.harts h counts_as_halted) (λ i ne. others-step q.harts h counts_as_halted i ne)
-      (subst (λ (u : Kept). IsTied (range_of q) h (halts (Some a.a0) x) u) (sym own) (record { halted = refl; flight = own-flight; domain = own-domain })) refl
+      served-fits (halts (Some a.a0) x) (at_hart h counts_as_halted q.harts) (count-step q.harts h counts_as_halted) (λ i ne.
+      others-step q.harts h counts_as_halted i ne)
+      (subst (λ (u : Kept). IsTied (range_of q) h (halts (Some a.a0) x) u) (sym own)
+      (record { halted = refl; flight = own-flight; domain = own-domain })) refl
 
   pub made-ended : a.stop ≡ true →
-      IsMade m (record m { parts = record q { harts = at_hart h counts_as_halted q.harts }; harts = set m.harts h (halts (Some a.a0) (hart_among m.harts h)) })
+      IsMade m (record m {
+        parts = record q { harts = at_hart h counts_as_halted q.harts };
+        harts =
+            set m.harts h (halts (Some a.a0) (hart_among m.harts h));
+      })
       (record { bytes = bytes; note = Some (N.Exit m.steps h (hart_among m.harts h).domain a.a0) }) T.Called
       (served (reads_of m) (core_in m) h (hart_in m h) call)
   made-ended e =
@@ -191,11 +210,13 @@ module _ (m : Held) (h : ℕ) (call : Call) (q : Parts) (bytes : List ℕ) (a : 
       let off : ℕ → Seen = λ a0. record { regs = x.regs; pc = x.pc; domain = x.domain; frames = x.frames; status = Halted (Some a0) } in
       let p = record q { harts = at_hart h counts_as_halted q.harts } in
       record {
-        core = core-step m h (halts (Some a.a0) x) p (λ i ne. ap (λ (y : Kept). y.flight) (others-step q.harts h counts_as_halted i ne) ∙ fly-alike i ne)
+        core = core-step m h (halts (Some a.a0) x) p (λ i ne. ap (λ (y : Kept). y.flight) (others-step q.harts h counts_as_halted i ne)
+            ∙ fly-alike i ne)
             ∙ ap (with_hart h (off a.a0)) (core-kept (rest_of m) q h counts_as_halted refl ∙ d.core)
             ∙ ap (λ (n : ℕ). with_hart h (off n) s.core) d.a0
             ∙ sym (ap (λ (y : Seen). halted h y (Some s.a0) s.core) (hart-in m h))
-            ∙ sym (ap (λ (b : Bool). cond b (halted h l (Some s.a0) s.core) (with_regs h l (answered l s.a0 s.a1) (next l.pc) s.core)) ends);
+            ∙ sym (ap (λ (b : Bool). cond b (halted h l (Some s.a0) s.core) (with_regs h l (answered l s.a0 s.a1) (next l.pc) s.core))
+            ends);
         maps = d.maps;
         owners = d.owners;
         console = d.console;

@@ -14,10 +14,12 @@ in-first e s l = omega (arith, l)
 in-last : (e s : ℕ) → e + s < 2 ^ 63 → s < 2 ^ 63
 in-last e s l = omega (arith, l)
 
--- a field's alignment and the size of what stands before it; fields in the order in which they lie in memory: in a machine what it holds, in this the
+-- a field's alignment and the size of what stands before it; fields in the order in which they lie in memory: in a machine what it holds,
+-- in this the
 -- bus, in this the supervisor, in this the checker
 pub fits-supervisor : (z y a a1 a2 a3 a4 a5 b n1 n2 n3 n4 n5 c c1 c2 d m1 m2 s : ℕ) →
-    up z (up y 0 + up a (up a1 (up a2 (up a3 (up a4 (up a5 (up b 0 + up c (up c1 (up c2 (up d 0 + s) + m1) + m2)) + n1) + n2) + n3) + n4) + n5)) < 2 ^ 63 → s < 2 ^ 63
+    up z (up y 0 + up a (up a1 (up a2 (up a3 (up a4 (up a5 (up b 0 + up c (up c1 (up c2 (up d 0 + s) + m1) + m2)) + n1) + n2) + n3) + n4)
+    + n5)) < 2 ^ 63 → s < 2 ^ 63
 fits-supervisor z y a a1 a2 a3 a4 a5 b n1 n2 n3 n4 n5 c c1 c2 d m1 m2 s l = search (arith, in-last, in-up, in-first)
 
 pub fits-checker : (z y a a1 a2 a3 a4 a5 b n1 n2 n3 n4 n5 c c1 c2 d m1 m2 e e1 e2 e3 e4 f k1 k2 k3 k4 s : ℕ) →

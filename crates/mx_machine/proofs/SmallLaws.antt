@@ -1,5 +1,6 @@
 -- What is true of each of a list, element after element.
-use Rattle.std.proofs.Common.{◌≡◌, ◌≢◌, ℕ, suc, ◌+◌, ◌<◌, ◌≤◌, ◌⊎◌, inl, inr, List, [], ◌∷◌, length, get_or, refl, sym, ap, subst, ◌∙◌, arith, Option, Some, None}
+use Rattle.std.proofs.Common.{◌≡◌, ◌≢◌, ℕ, suc, ◌+◌, ◌<◌, ◌≤◌, ◌⊎◌, inl, inr, List, [], ◌∷◌, length, get_or, refl, sym, ap, subst, ◌∙◌}
+use Rattle.std.proofs.Common.{arith, Option, Some, None}
 use Rattle.std.specs.List.{AllByRecursion}
 use Rattle.std.specs.Prelude.{slice_get}
 use Rattle.std.proofs.lemmas.Bool.{cases_eq}
@@ -12,7 +13,8 @@ pub record AllFirst {X : Type 0} (P : X → Type 0) (n : ℕ) (xs : List X) : Ty
 some-same : {X : Type 0} (o : Option X) (x y : X) → o ≡ Some x → o ≡ Some y → x ≡ y
 some-same o x y e f = let both : Some x ≡ Some y = sym e ∙ f in cc
 
-pub first-more : {X : Type 0} (P : X → Type 0) (xs : List X) (n : ℕ) (y : X) → AllFirst P n xs → slice_get xs n ≡ Some y → P y → AllFirst P (n + 1) xs
+pub first-more : {X : Type 0} (P : X → Type 0) (xs : List X) (n : ℕ) (y : X) → AllFirst P n xs → slice_get xs n ≡ Some y → P y
+    → AllFirst P (n + 1) xs
 first-more P xs n y a there p = record { at = λ i x lt e. by i x lt e (cases_eq i n) }
   where
     by : (i : ℕ) (x : _) → i < n + 1 → slice_get xs i ≡ Some x → (i ≡ n) ⊎ (i ≢ n) → P x

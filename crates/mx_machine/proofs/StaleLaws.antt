@@ -7,6 +7,7 @@ use Rattle.mx_words.specs.declared.perm.Perm.{Perm}
 use Rattle.mx_words.specs.Caches.{Cache, no_cache}
 use Rattle.mx_words.specs.Newest.{map}
 use Rattle.mx_words.proofs.OverlayLaws.{length-map_of}
+use Rattle.mx_words.specs.KeptSpans.{IsEmpty}
 use Rattle.mx_table.specs.Tables.{IsDomain}
 use Rattle.mx_check.specs.Calls.{new_harts}
 use Rattle.mx_check.specs.Harts.{Kept, kept_at}
@@ -14,7 +15,6 @@ use Rattle.mx_check.specs.Harts.{nothing_kept}
 use Rattle.mx_model.specs.Reads.{map_in}
 use Rattle.mx_supervisor.specs.Parts.{Parts}
 use Rattle.mx_supervisor.proofs.Maps.{map-in}
-use Rattle.mx_coherence.specs.Spans.{IsEmpty}
 use Rattle.mx_coherence.specs.Coherence.{AreWhole, HasEmptyCaches}
 use Rattle.mx_machine.specs.Held.{Held, meaning}
 use Rattle.mx_machine.specs.Made.{core_in}
@@ -34,7 +34,8 @@ empty-caches m kept same each h =
 pub new-cache : (n h : ℕ) → (kept_at (new_harts n) h).cache ≡ no_cache
 new-cache n h = search (arith, cases_lt, get_or-replicate, get_or_past, length-replicate)
 
-pub unused-cache : (p : Parts) (states : List HartState) (stacks : List StackArea) (dead : List Bool) (steps : ℕ) → MayResume p states stacks dead steps →
+pub unused-cache : (p : Parts) (states : List HartState) (stacks : List StackArea) (dead : List Bool) (steps : ℕ)
+    → MayResume p states stacks dead steps →
     (h : ℕ) → (kept_at p.harts h).cache ≡ no_cache
 unused-cache p states stacks dead steps may h = by (cases_lt h (length states))
   where

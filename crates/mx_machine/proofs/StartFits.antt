@@ -1,5 +1,6 @@
 -- The parts of a machine that starts or resumes fit one another.
-use Rattle.std.proofs.Common.{◌≡◌, ◌≢◌, ℕ, zero, suc, ◌<◌, ◌≤◌, ◌⊎◌, inl, inr, Bool, true, false, cond, List, length, get_or, Option, Some, None, refl, sym, ap, subst, ◌∙◌, arith}
+use Rattle.std.proofs.Common.{◌≡◌, ◌≢◌, ℕ, zero, suc, ◌<◌, ◌≤◌, ◌⊎◌, inl, inr, Bool, true, false, cond, List, length, get_or, Option, Some}
+use Rattle.std.proofs.Common.{None, refl, sym, ap, subst, ◌∙◌, arith}
 use Rattle.std.proofs.Common.{map as list_map}
 use Rattle.std.specs.List.{list_any}
 use Rattle.std.proofs.Math.Seq.{map-set_same}
@@ -45,8 +46,10 @@ held_started p starts stacks =
 pub no_start : HartStart
 no_start = record { domain = 0; pc = 0 }
 
-module _ (p : Parts) (starts : List HartStart) (stacks : List StackArea) (sound : IsSound p) (may : MayStart p starts stacks) (few : length starts ≤ 4) where
-  pub hart-there : (h : ℕ) → h < length starts → hart_among (started_from stacks 0 starts) h ≡ started_hart stacks h (get_or starts h no_start)
+module _ (p : Parts) (starts : List HartStart) (stacks : List StackArea) (sound : IsSound p) (may : MayStart p starts stacks)
+    (few : length starts ≤ 4) where
+  pub hart-there : (h : ℕ) → h < length starts → hart_among (started_from stacks 0 starts) h
+      ≡ started_hart stacks h (get_or starts h no_start)
   hart-there h lt = search (arith, started-at, slice_get-get_or, no_start)
 
   hart-past : (h : ℕ) → length starts ≤ h → hart_among (started_from stacks 0 starts) h ≡ no_held_hart
@@ -58,11 +61,13 @@ module _ (p : Parts) (starts : List HartStart) (stacks : List StackArea) (sound 
   kept-past : (h : ℕ) → length starts ≤ h → kept_at p.harts h ≡ nothing_kept
   kept-past h le = search (arith, get_or_past, length-replicate)
 
-  ties-started : (h : ℕ) → (h < length starts) ⊎ (length starts ≤ h) → IsTied (range_of p) h (hart_among (started_from stacks 0 starts) h) (kept_at p.harts h)
+  ties-started : (h : ℕ) → (h < length starts) ⊎ (length starts ≤ h)
+      → IsTied (range_of p) h (hart_among (started_from stacks 0 starts) h) (kept_at p.harts h)
   ties-started h x =
       grind (arith, tied-as, no_start, hart-there, kept-there, tied-start, hart-past, kept-past, tied-nobody)
 
-  quiet-started : (h : ℕ) → (h < length starts) ⊎ (length starts ≤ h) → is_waiting (hart_among (started_from stacks 0 starts) h).progress ≡ false
+  quiet-started : (h : ℕ) → (h < length starts) ⊎ (length starts ≤ h)
+      → is_waiting (hart_among (started_from stacks 0 starts) h).progress ≡ false
   quiet-started h x = grind (arith, hart-there, hart-past)
 
   pub fits-started : Fits (held_started p starts stacks)
@@ -99,12 +104,15 @@ module _ (xs : List Hart) (kept : List Kept) where
   halted-below zero h most lt = absurd (omega (arith, lt))
   halted-below (suc n) h most lt = by (halted-below n h (omega (arith, most))) (cases_eq h n)
     where
-      by : (h < n → kept_at (halted_first n xs kept) h ≡ cond (is_halted (hart_among xs h).progress) (counts_as_halted (kept_at kept h)) (kept_at kept h)) →
+      by : (h < n → kept_at (halted_first n xs kept) h ≡ cond (is_halted (hart_among xs h).progress) (counts_as_halted (kept_at kept h))
+          (kept_at kept h)) →
           (h ≡ n) ⊎ (h ≢ n) →
-          kept_at (halted_first (suc n) xs kept) h ≡ cond (is_halted (hart_among xs h).progress) (counts_as_halted (kept_at kept h)) (kept_at kept h)
+          kept_at (halted_first (suc n) xs kept) h ≡ cond (is_halted (hart_among xs h).progress) (counts_as_halted (kept_at kept h))
+          (kept_at kept h)
       by rest (inl e) =
           let long : n < length (halted_first n xs kept) = omega (arith, most, length-halted n) in
-          subst (λ (j : ℕ). kept_at (halted_first (suc n) xs kept) j ≡ cond (is_halted (hart_among xs j).progress) (counts_as_halted (kept_at kept j)) (kept_at kept j)) (sym e)
+          subst (λ (j : ℕ). kept_at (halted_first (suc n) xs kept) j
+          ≡ cond (is_halted (hart_among xs j).progress) (counts_as_halted (kept_at kept j)) (kept_at kept j)) (sym e)
           (one-same n (is_halted (hart_among xs n).progress) (halted_first n xs kept) long
           ∙ ap (λ (k : Kept). cond (is_halted (hart_among xs n).progress) (counts_as_halted k) k) (halted-past n n (omega arith)))
       by rest (inr ne) =
@@ -119,7 +127,8 @@ module _ (xs : List Hart) (kept : List Kept) where
           list_map (λ (k : Kept). k.cache) (cond b (at_hart n counts_as_halted (halted_first n xs kept)) (halted_first n xs kept))
           ≡ list_map (λ (k : Kept). k.cache) kept
       by true e =
-          map-set_same (λ (k : Kept). k.cache) (halted_first n xs kept) n (counts_as_halted (kept_at (halted_first n xs kept) n)) nothing_kept refl ∙ e
+          map-set_same (λ (k : Kept). k.cache) (halted_first n xs kept) n (counts_as_halted (kept_at (halted_first n xs kept) n))
+          nothing_kept refl ∙ e
       by false e = e
 
   flight-one : (b : Bool) (k : Kept) → (cond b (counts_as_halted k) k).flight ≡ k.flight

@@ -29,7 +29,8 @@ length-started stacks n [] = refl
 length-started stacks n (s ∷ rest) = ap suc (length-started stacks (n + 1) rest)
 
 -- at most four are their list
-pub four-are : (xs : List Hart) (n : ℕ) (a b c d : Hart) → n ≡ length xs → n ≤ 4 → a ≡ hart_among xs 0 → b ≡ hart_among xs 1 → c ≡ hart_among xs 2 → d ≡ hart_among xs 3 →
+pub four-are : (xs : List Hart) (n : ℕ) (a b c d : Hart) → n ≡ length xs → n ≤ 4 → a ≡ hart_among xs 0 → b ≡ hart_among xs 1
+    → c ≡ hart_among xs 2 → d ≡ hart_among xs 3 →
     take n (a ∷ b ∷ c ∷ d ∷ []) ≡ xs
 four-are xs n a b c d e le ea eb ec ed =
     ap (λ k. take k (a ∷ b ∷ c ∷ d ∷ [])) e
@@ -39,7 +40,8 @@ four-are xs n a b c d e le ea eb ec ed =
     ∙ ap (λ (x : Hart). take (length xs) (hart_among xs 0 ∷ hart_among xs 1 ∷ hart_among xs 2 ∷ x ∷ [])) ed
     ∙ by xs (omega (arith, e, le))
   where
-    by : (xs : List Hart) → length xs ≤ 4 → take (length xs) (hart_among xs 0 ∷ hart_among xs 1 ∷ hart_among xs 2 ∷ hart_among xs 3 ∷ []) ≡ xs
+    by : (xs : List Hart) → length xs ≤ 4 → take (length xs) (hart_among xs 0 ∷ hart_among xs 1 ∷ hart_among xs 2 ∷ hart_among xs 3 ∷ [])
+        ≡ xs
     by [] le = refl
     by (x ∷ []) le = refl
     by (x ∷ y ∷ []) le = refl

@@ -1,5 +1,6 @@
 -- A machine that starts or resumes is valid.
-use Rattle.std.proofs.Common.{◌≡◌, ◌≢◌, ℕ, zero, suc, ◌+◌, ◌-◌, ◌*◌, ◌^◌, ◌<◌, ◌≤◌, ◌⊎◌, inl, inr, ◌==◌, Bool, true, cond, List, [], ◌∷◌, length, get_or, replicate, refl, sym, ap, subst, ◌∙◌, arith, eq-eqb, Option, Some, None}
+use Rattle.std.proofs.Common.{◌≡◌, ◌≢◌, ℕ, zero, suc, ◌+◌, ◌-◌, ◌*◌, ◌^◌, ◌<◌, ◌≤◌, ◌⊎◌, inl, inr, ◌==◌, Bool, true, cond, List, [], ◌∷◌}
+use Rattle.std.proofs.Common.{length, get_or, replicate, refl, sym, ap, subst, ◌∙◌, arith, eq-eqb, Option, Some, None}
 use Rattle.std.proofs.Common.{map as list_map}
 use Rattle.std.specs.Prelude.{slice_get, slice_index, IfSome}
 use Rattle.std.specs.List.{AllByRecursion}
@@ -39,21 +40,25 @@ use Rattle.mx_machine.specs.Harts.{hart_among, is_halted, no_held_hart, own_call
 use Rattle.mx_machine.specs.Held.{Held, area_of, behind, beside, home, meaning, no_area, rest_of}
 use Rattle.mx_machine.specs.Made.{core_in}
 use Rattle.mx_machine.specs.Smalls.{IsSmallFrame, IsSmallStart, IsSmallState}
-use Rattle.mx_machine.specs.Starts.{FliesIfWaiting, IsBackPlace, IsHartState, IsStack, IsStart, MayResume, MayStart, no_state, progress_of, resumed, resumed_hart, started_from, started_hart}
+use Rattle.mx_machine.specs.Starts.{FliesIfWaiting, IsBackPlace, IsHartState, IsStack, IsStart, MayResume, MayStart, no_state, progress_of}
+use Rattle.mx_machine.specs.Starts.{resumed, resumed_hart, started_from, started_hart}
 use Rattle.mx_machine.specs.Ties.{Fits, IsWhole}
 use Rattle.mx_coherence.specs.Coherence.{HasEmptyCaches, IsCoherent}
 use Rattle.mx_machine.proofs.StaleLaws.{empty-caches, new-cache, unused-cache}
 use Rattle.mx_machine.proofs.HartsAt.{hart-in, length-seen, seen-same}
 use Rattle.mx_machine.proofs.HomeLaws.{IsHere, module-is}
 use Rattle.mx_machine.proofs.SmallLaws.{from-each}
-use Rattle.mx_machine.proofs.StartFits.{caches-halted, fits-resumed, fits-started, flight-halted, hart-there, held_resumed, held_started, no_start}
+use Rattle.mx_machine.proofs.StartFits.{caches-halted, fits-resumed, fits-started, flight-halted, hart-there, held_resumed, held_started}
+use Rattle.mx_machine.proofs.StartFits.{no_start}
 use Rattle.mx_machine.proofs.StartLaws.{area-fits, length-started}
 
 -- an area that lies in RAM or has no words, as it is told
-stack-fits : (words first n size : ℕ) → (words ≡ 0) ⊎ (first + words * n ≤ size) → (words ≡ 0) ⊎ (words ≢ 0) → cond (words == 0) 0 first + words * n ≤ size
+stack-fits : (words first n size : ℕ) → (words ≡ 0) ⊎ (first + words * n ≤ size) → (words ≡ 0) ⊎ (words ≢ 0)
+    → cond (words == 0) 0 first + words * n ≤ size
 stack-fits words first n size s x = grind (arith, ne_eqb)
 
-pub home-is : (size n : ℕ) (dead : List Bool) (d : ℕ) (a : StackArea) (heap : HeapState) → heap.area.first + heap.area.count ≤ size → IsTold heap → IsStack size n a →
+pub home-is : (size n : ℕ) (dead : List Bool) (d : ℕ) (a : StackArea) (heap : HeapState) → heap.area.first + heap.area.count ≤ size
+    → IsTold heap → IsStack size n a →
     IsHome size n (with_heap (home dead d a) heap)
 home-is size n dead d a heap in_ram is s = record {
   heap = in_ram;
@@ -75,7 +80,8 @@ pub record HasValidParts (m : Held) : Type 0 where
   pub one_gate : AreSingle m.parts.gates
   pub some_harts : 1 ≤ length m.harts
   pub stacks : AllByRecursion (IsStack m.parts.size (length m.harts)) m.stacks
-  pub harts : (h : ℕ) → h < length m.harts → IsHart (length m.parts.maps) (length m.harts) h (seen h (hart_among m.harts h) (kept_at m.parts.harts h))
+  pub harts : (h : ℕ) → h < length m.harts → IsHart (length m.parts.maps) (length m.harts) h
+      (seen h (hart_among m.harts h) (kept_at m.parts.harts h))
 
 module _ (m : Held) (f : Fits m) (v : HasValidParts m) where
   as-modules : length (core_in m).modules ≡ length m.parts.maps
@@ -90,13 +96,16 @@ module _ (m : Held) (f : Fits m) (v : HasValidParts m) where
       let place : (i + 1) - 1 ≡ i = omega arith in
       let here : IsHere m (i + 1) = record { low = omega arith; high = omega (arith, there) } in
       let is : with_heap (home m.dead (i + 1) (area_of m.stacks (i + 1))) (heap_at m.parts.heaps (i + 1)) ≡ x =
-      sym (module-is m (i + 1) f here) ∙ ap (λ k. get_or (core_in m).modules k no_module) place ∙ get_or_from_slice_get (core_in m).modules i x no_module e in
+      sym (module-is m (i + 1) f here) ∙ ap (λ k. get_or (core_in m).modules k no_module) place
+      ∙ get_or_from_slice_get (core_in m).modules i x no_module e in
       let stack : IsStack m.parts.size (length m.harts) (area_of m.stacks (i + 1)) =
       all-in (IsStack m.parts.size (length m.harts)) m.stacks no_area v.stacks ((i + 1) - 1) (omega (arith, there, f.stacks)) in
       subst (IsHome m.parts.size (length m.harts)) is
-      (home-is m.parts.size (length m.harts) m.dead (i + 1) (area_of m.stacks (i + 1)) (heap_at m.parts.heaps (i + 1)) (f.sound.areas (i + 1)) (v.heaps (i + 1)) stack)
+      (home-is m.parts.size (length m.harts) m.dead (i + 1) (area_of m.stacks (i + 1)) (heap_at m.parts.heaps (i + 1))
+      (f.sound.areas (i + 1)) (v.heaps (i + 1)) stack)
 
-  each-hart : (h : ℕ) → h < length (core_in m).harts → IsHart (length (core_in m).modules) (length (core_in m).harts) h (get_or (core_in m).harts h nobody_seen)
+  each-hart : (h : ℕ) → h < length (core_in m).harts → IsHart (length (core_in m).modules) (length (core_in m).harts) h
+      (get_or (core_in m).harts h nobody_seen)
   each-hart h lt = search (arith, as-modules, as-harts, hart-in, v.harts)
 
   pub valid-parts : IsValid (core_in m)
@@ -119,7 +128,8 @@ module _ (m : Held) (f : Fits m) (v : HasValidParts m) where
   }
 
 -- the address after a stack area is a number of 32 bits
-behind-small : (a : StackArea) (h : ℕ) → (a.words ≡ 0) ⊎ (a.first + a.words * (h + 1) ≤ most_words) → cond (a.words == 0) 0 (address_of (a.first + a.words * (h + 1))) < 2 ^ 32
+behind-small : (a : StackArea) (h : ℕ) → (a.words ≡ 0) ⊎ (a.first + a.words * (h + 1) ≤ most_words)
+    → cond (a.words == 0) 0 (address_of (a.first + a.words * (h + 1))) < 2 ^ 32
 behind-small a h x = grind (arith, eq-eqb)
 
 zeros-small : (n i : ℕ) → get_or {A = ℕ} (replicate n 0) i 0 < 2 ^ 32
@@ -148,7 +158,8 @@ hart-starts p stacks n h s k is small a = record {
 }
 
 -- frames that lead back
-frames-are : (p : Parts) (fs : List Frame) → AllByRecursion (IsBackPlace p) fs → AllByRecursion IsSmallFrame fs → AllByRecursion (IsFrame (length p.maps)) fs
+frames-are : (p : Parts) (fs : List Frame) → AllByRecursion (IsBackPlace p) fs → AllByRecursion IsSmallFrame fs
+    → AllByRecursion (IsFrame (length p.maps)) fs
 frames-are p [] b s = tt
 frames-are p (f ∷ fs) b s = (
   record {
@@ -171,7 +182,8 @@ module _ (p : Parts) (n h : ℕ) (s : HartState) (is : IsHartState p s) (small :
   abbrev seen-as : HartStatus → Option Flight → Seen
   seen-as v o = seen_with (status_by (own_call h (resumed_hart s)) o (progress_of v)) (resumed_hart s)
 
-  resumes-as : (v : HartStatus) (o : Option Flight) → FliesIfWaiting p h s v o → IfSome o (AreHearers n h) → IsHart (length p.maps) n h (seen-as v o)
+  resumes-as : (v : HartStatus) (o : Option Flight) → FliesIfWaiting p h s v o → IfSome o (AreHearers n h)
+      → IsHart (length p.maps) n h (seen-as v o)
   resumes-as V.Running o t q = record {
     regs = registers;
     pc = pc-is;
@@ -198,7 +210,8 @@ module _ (p : Parts) (n h : ℕ) (s : HartState) (is : IsHartState p s) (small :
     status = tt;
   }
 
-  pub hart-resumes : (k : Kept) → FliesIfWaiting p h s s.status k.flight → IfSome k.flight (AreHearers n h) → IsHart (length p.maps) n h (seen h (resumed_hart s) k)
+  pub hart-resumes : (k : Kept) → FliesIfWaiting p h s s.status k.flight → IfSome k.flight (AreHearers n h)
+      → IsHart (length p.maps) n h (seen h (resumed_hart s) k)
   hart-resumes k t q = resumes-as s.status k.flight t q
 
 -- stack areas of a machine, also of a domain that isn't there
@@ -206,14 +219,17 @@ pub stack-at : (size n most d : ℕ) (stacks : List StackArea) → size ≤ most
     ((area_of stacks d).words ≡ 0) ⊎ ((area_of stacks d).first + (area_of stacks d).words * n ≤ most)
 stack-at size n most d stacks le h = wider (all-at (IsStack size n) stacks no_area h (inl refl) (d - 1))
   where
-    wider : IsStack size n (area_of stacks d) → ((area_of stacks d).words ≡ 0) ⊎ ((area_of stacks d).first + (area_of stacks d).words * n ≤ most)
+    wider : IsStack size n (area_of stacks d) → ((area_of stacks d).words ≡ 0)
+        ⊎ ((area_of stacks d).first + (area_of stacks d).words * n ≤ most)
     wider (inl e) = inl e
     wider (inr q) = inr (omega (arith, q, le))
 
-pub starts-in-modules : (p : Parts) (starts : List HartStart) → AllByRecursion (IsStart p) starts → AllByRecursion (λ (s : HartStart). 1 ≤ s.domain) starts
+pub starts-in-modules : (p : Parts) (starts : List HartStart) → AllByRecursion (IsStart p) starts
+    → AllByRecursion (λ (s : HartStart). 1 ≤ s.domain) starts
 starts-in-modules p starts h = all-weaker (IsStart p) (λ (s : HartStart). 1 ≤ s.domain) starts (λ s is. is.domain.first) h
 
-pub zero-registers : (p : Parts) (states : List HartState) → AllByRecursion (IsHartState p) states → AllByRecursion (λ (s : HartState). slice_index s.regs 0 ≡ 0) states
+pub zero-registers : (p : Parts) (states : List HartState) → AllByRecursion (IsHartState p) states
+    → AllByRecursion (λ (s : HartState). slice_index s.regs 0 ≡ 0) states
 zero-registers p states h = all-weaker (IsHartState p) (λ (s : HartState). slice_index s.regs 0 ≡ 0) states (λ s is. is.x0) h
 
 -- what the types of a supervisor's parts say of them
@@ -231,14 +247,18 @@ abbrev kept_resumed : Parts → List HartState → List Kept
 kept_resumed p states = halted_first (length (list_map resumed_hart states)) (list_map resumed_hart states) p.harts
 
 -- a machine that starts
-module _ (p : Parts) (starts : List HartStart) (stacks : List StackArea) (sound : IsSound p) (may : MayStart p starts stacks) (few : length starts ≤ 4)
-    (small : AllByRecursion IsSmallStart starts) (typed : AreTyped p) (coherent : (r : Reads) (c : Core) → HasEmptyCaches c → IsCoherent r c) where
+module _ (p : Parts) (starts : List HartStart) (stacks : List StackArea) (sound : IsSound p) (may : MayStart p starts stacks)
+    (few : length starts ≤ 4)
+    (small : AllByRecursion IsSmallStart starts) (typed : AreTyped p) (coherent : (r : Reads) (c : Core) → HasEmptyCaches c
+    → IsCoherent r c) where
   each-start : (h : ℕ) → h < length starts →
       IsHart (length p.maps) (length starts) h (seen h (hart_among (started_from stacks 0 starts) h) (kept_at p.harts h))
   each-start h lt =
       let s = get_or starts h no_start in
-      let area = area-fits (area_of stacks s.domain) most_words (length starts) h (stack-at p.size (length starts) most_words s.domain stacks sound.few_words may.areas) lt in
-      subst (λ (x : Hart). IsHart (length p.maps) (length starts) h (seen h x (kept_at p.harts h))) (sym (hart-there p starts stacks sound may few h lt))
+      let area = area-fits (area_of stacks s.domain) most_words (length starts) h
+      (stack-at p.size (length starts) most_words s.domain stacks sound.few_words may.areas) lt in
+      subst (λ (x : Hart). IsHart (length p.maps) (length starts) h (seen h x (kept_at p.harts h)))
+      (sym (hart-there p starts stacks sound may few h lt))
       (hart-starts p stacks (length starts) h s (kept_at p.harts h) (all-in (IsStart p) starts no_start may.each h lt)
       (all-in IsSmallStart starts no_start small h lt) area)
 
@@ -257,7 +277,8 @@ module _ (p : Parts) (starts : List HartStart) (stacks : List StackArea) (sound 
       }
 
 -- a machine that resumes, without what its types say
-module _ (p : Parts) (states : List HartState) (stacks : List StackArea) (dead : List Bool) (steps : ℕ) (may : MayResume p states stacks dead steps) where
+module _ (p : Parts) (states : List HartState) (stacks : List StackArea) (dead : List Bool) (steps : ℕ)
+    (may : MayResume p states stacks dead steps) where
   pub as-many : length (list_map resumed_hart states) ≡ length p.harts
   as-many = length-map states resumed_hart ∙ sym may.same_harts
 
@@ -268,18 +289,26 @@ module _ (p : Parts) (states : List HartState) (stacks : List StackArea) (dead :
   meaning-resumed =
       let harts = list_map resumed_hart states in
       let caches = list_map (λ (k : Kept). k.cache) (kept_resumed p states) in
-      ap (λ (hs : List Seen). record (flat_of (beside hs stacks dead steps) p) { core = record (core_of (beside hs stacks dead steps) p) { caches = caches } })
+      ap (λ (hs : List Seen). record (flat_of (beside hs stacks dead steps) p) {
+        core =
+            record (core_of (beside hs stacks dead steps) p) { caches = caches };
+      })
       (seen-same 0 harts (kept_resumed p states) p.harts (λ i le. same-flight i))
-      ∙ ap (λ (cs : List Cache). record (resumed p states stacks dead steps) { core = record (resumed p states stacks dead steps).core { caches = cs } })
+      ∙ ap (λ (cs : List Cache). record (resumed p states stacks dead steps) {
+        core =
+            record (resumed p states stacks dead steps).core { caches = cs };
+      })
       (caches-halted harts p.harts (length harts))
 
   -- a hart that resumes halted has no call in flight
-  flies-not : (h : ℕ) (s : HartState) (v : HartStatus) (o : Option Flight) → FliesIfWaiting p h s v o → is_halted (progress_of v) ≡ true → o ≡ None
+  flies-not : (h : ℕ) (s : HartState) (v : HartStatus) (o : Option Flight) → FliesIfWaiting p h s v o → is_halted (progress_of v) ≡ true
+      → o ≡ None
   flies-not h s V.Running o t e = t
   flies-not h s V.Waiting o t e = cc
   flies-not h s V.Halted o t e = t
 
-  free-at : (h : ℕ) → (h < length states) ⊎ (length states ≤ h) → is_halted (hart_among (list_map resumed_hart states) h).progress ≡ true → (kept_at p.harts h).flight ≡ None
+  free-at : (h : ℕ) → (h < length states) ⊎ (length states ≤ h) → is_halted (hart_among (list_map resumed_hart states) h).progress ≡ true
+      → (kept_at p.harts h).flight ≡ None
   free-at h x e = grind (arith, get_or-map, flies-not, get_or_past)
 
   pub free-resumed : (h : ℕ) → is_halted (hart_among (list_map resumed_hart states) h).progress ≡ true → (kept_at p.harts h).flight ≡ None
@@ -287,16 +316,21 @@ module _ (p : Parts) (states : List HartState) (stacks : List StackArea) (dead :
 
 -- a machine that resumes
 module _ (p : Parts) (states : List HartState) (stacks : List StackArea) (dead : List Bool) (steps : ℕ) (sound : IsSound p)
-    (may : MayResume p states stacks dead steps) (few : length states ≤ 4) (places : length dead ≡ 64) (small : AllByRecursion IsSmallState states) (typed : AreTyped p)
+    (may : MayResume p states stacks dead steps) (few : length states ≤ 4) (places : length dead ≡ 64)
+    (small : AllByRecursion IsSmallState states) (typed : AreTyped p)
     (hearers : (h : ℕ) → IfSome (kept_at p.harts h).flight (AreHearers (length p.harts) h))
     (coherent : (r : Reads) (c : Core) → HasEmptyCaches c → IsCoherent r c) where
-  each-left : (h : ℕ) → h < length states → IsHart (length p.maps) (length states) h (seen h (hart_among (list_map resumed_hart states) h) (kept_at (kept_resumed p states) h))
+  each-left : (h : ℕ) → h < length states → IsHart (length p.maps) (length states) h
+      (seen h (hart_among (list_map resumed_hart states) h) (kept_at (kept_resumed p states) h))
   each-left h lt =
       let s = get_or states h no_state in
       let k = kept_at (kept_resumed p states) h in
-      subst (λ (x : Hart). IsHart (length p.maps) (length states) h (seen h x k)) (sym (get_or-map resumed_hart states h no_state no_held_hart lt))
-      (hart-resumes p (length states) h s (all-in (IsHartState p) states no_state may.each h lt) (all-in IsSmallState states no_state small h lt) k
-      (subst (λ (o : Option Flight). FliesIfWaiting p h s s.status o) (sym (same-flight p states stacks dead steps may h)) (may.unused h lt).flight)
+      subst (λ (x : Hart). IsHart (length p.maps) (length states) h (seen h x k))
+      (sym (get_or-map resumed_hart states h no_state no_held_hart lt))
+      (hart-resumes p (length states) h s (all-in (IsHartState p) states no_state may.each h lt)
+      (all-in IsSmallState states no_state small h lt) k
+      (subst (λ (o : Option Flight). FliesIfWaiting p h s s.status o) (sym (same-flight p states stacks dead steps may h))
+      (may.unused h lt).flight)
       (subst (λ (o : Option Flight). IfSome o (AreHearers (length states) h)) (sym (same-flight p states stacks dead steps may h))
       (subst (λ n. IfSome (kept_at p.harts h).flight (AreHearers n h)) may.same_harts (hearers h))))
 

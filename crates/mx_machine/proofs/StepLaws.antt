@@ -40,7 +40,8 @@ module _ (m n : Held) (h : ℕ) (events : Events) (answer : TurnKind) (i : IsMad
   bytes-is halted waits idle x = search arith
 
 -- a turn of the flat state is one of each state of which it is the flat state
-pub is-turn : (f g : Flat) (h : ℕ) (events : Events) (answer : TurnKind) → g ≡ flat_turn f h → IsTold (flat_made f h) events → answer ≡ flat_kind f h →
+pub is-turn : (f g : Flat) (h : ℕ) (events : Events) (answer : TurnKind) → g ≡ flat_turn f h → IsTold (flat_made f h) events
+    → answer ≡ flat_kind f h →
     (s : State) → f ≡ flat s → IsTurn s h g events answer
 is-turn f g h events answer t o k s e =
     let made : flat_made f h ≡ made_of s h = ap (λ (x : Flat). flat_made x h) e ∙ sym (made-flat s h) in

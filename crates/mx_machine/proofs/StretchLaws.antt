@@ -46,10 +46,12 @@ pub run-none : (m : Held) (h : ℕ) → IsWhole m → HasRunOn (meaning m) h 0 m
 run-none m h w = record { whole = w; at = refl; ran = λ i below. absurd ((omega arith)); steps = omega arith }
 
 -- a turn counts
-pub turn-steps : (m k : Held) (h : ℕ) (events : Events) (answer : TurnKind) → IsMade m k events answer (flat_made (meaning m) h) → k.steps ≡ m.steps + 1
+pub turn-steps : (m k : Held) (h : ℕ) (events : Events) (answer : TurnKind) → IsMade m k events answer (flat_made (meaning m) h)
+    → k.steps ≡ m.steps + 1
 turn-steps m k h events answer i = ap (λ (c : Core). c.turns) i.core ∙ (keeps-turned (flat_reads (meaning m)) (core_in m) h).turns
 
-module _ (f : Flat) (h n : ℕ) (m k : Held) (events : Events) (answer : TurnKind) (r : HasRunOn f h n m) (i : IsMade m k events answer (flat_made (meaning m) h)) where
+module _ (f : Flat) (h n : ℕ) (m k : Held) (events : Events) (answer : TurnKind) (r : HasRunOn f h n m)
+    (i : IsMade m k events answer (flat_made (meaning m) h)) where
   abbrev pub Law : Type 0
   Law = (q : Reads) (c : Core) (g : ℕ) → IsValid c → IsValid (turned q c g).core
 
@@ -63,7 +65,8 @@ module _ (f : Flat) (h n : ℕ) (m k : Held) (events : Events) (answer : TurnKin
   pub run-kind : answer ≡ flat_kind (turns_of h f n) h
   run-kind = i.kind ∙ ap (λ (g : Flat). flat_kind g h) r.at
 
-  pub run-stretch : (most : ℕ) → n < most → (answer ≡ T.Ran → n + 1 ≡ most) → IsStretch f h most (meaning k) events (record { ran = n; last = answer })
+  pub run-stretch : (most : ℕ) → n < most → (answer ≡ T.Ran → n + 1 ≡ most)
+      → IsStretch f h most (meaning k) events (record { ran = n; last = answer })
   run-stretch most below full = grind (arith, told-is, run-turn, run-kind)
 
   pub run-more : Law → Stays → Fits k → answer ≡ T.Ran → HasRunOn f h (n + 1) k

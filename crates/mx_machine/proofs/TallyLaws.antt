@@ -1,5 +1,6 @@
 -- Turns of a row that are counted together, and the fetches of their instructions: what that leaves as it was, and one more of them.
-use Rattle.std.proofs.Common.{◌≡◌, ◌≢◌, ℕ, zero, suc, ◌+◌, ◌<◌, ◌⊎◌, false, List, [], ◌∷◌, length, refl, sym, ap, subst, ◌∙◌, arith, add-one, get_or-set_same}
+use Rattle.std.proofs.Common.{◌≡◌, ◌≢◌, ℕ, zero, suc, ◌+◌, ◌<◌, ◌⊎◌, false, List, [], ◌∷◌, length, refl, sym, ap, subst, ◌∙◌, arith}
+use Rattle.std.proofs.Common.{add-one, get_or-set_same}
 use Rattle.std.specs.Prelude.{IfSome}
 use Rattle.std.proofs.lemmas.Bool.{cases_eq}
 use Rattle.mx_words.specs.Caches.{in_place}
@@ -32,9 +33,11 @@ module _ (q : Parts) (h d : ℕ) where
   length-touched [] kept = refl
   length-touched (t ∷ ts) kept =
       let m = map_of q.maps d in
-      length-touched ts (looked_at_address q.buffer q.kind m h t.place d t.address kept) ∙ length-looked-at q.buffer q.kind m h d t.place (word_of t.address (length m)) kept
+      length-touched ts (looked_at_address q.buffer q.kind m h t.place d t.address kept)
+      ∙ length-looked-at q.buffer q.kind m h d t.place (word_of t.address (length m)) kept
 
-  touched-hit : (ts : List Touch) (kept : List Kept) → h < length kept → looks_all q h d ts (at_hart h (hits d) kept) ≡ at_hart h (hits d) (looks_all q h d ts kept)
+  touched-hit : (ts : List Touch) (kept : List Kept) → h < length kept
+      → looks_all q h d ts (at_hart h (hits d) kept) ≡ at_hart h (hits d) (looks_all q h d ts kept)
   touched-hit [] kept there = refl
   touched-hit (t ∷ ts) kept there =
       let m = map_of q.maps d in
@@ -43,8 +46,10 @@ module _ (q : Parts) (h d : ℕ) where
       ap (λ (ks : List Kept). looks_all q h d ts ks) (hit-after q.buffer q.kind m h t.place d kept there t.address)
       ∙ touched-hit ts next (subst (λ (n : ℕ). h < n) (sym long) there)
 
-  touched-hits : (n : ℕ) (ts : List Touch) (kept : List Kept) → h < length kept → looks_all q h d ts (at_hart h (hits_all n d) kept) ≡ at_hart h (hits_all n d) (looks_all q h d ts kept)
-  touched-hits zero ts kept there = ap (λ (ks : List Kept). looks_all q h d ts ks) (none-hit h d kept) ∙ sym (none-hit h d (looks_all q h d ts kept))
+  touched-hits : (n : ℕ) (ts : List Touch) (kept : List Kept) → h < length kept
+      → looks_all q h d ts (at_hart h (hits_all n d) kept) ≡ at_hart h (hits_all n d) (looks_all q h d ts kept)
+  touched-hits zero ts kept there = ap (λ (ks : List Kept). looks_all q h d ts ks) (none-hit h d kept)
+      ∙ sym (none-hit h d (looks_all q h d ts kept))
   touched-hits (suc n) ts kept there =
       let before = at_hart h (hits_all n d) kept in
       let still : h < length before = subst (λ (i : ℕ). h < i) (sym (count-step kept h (hits_all n d))) there in
@@ -88,10 +93,12 @@ there-kept m h n f r = subst (λ (i : ℕ). h < i) (f.count ∙ count-step m.par
 pub tallied-none : (m : Held) (h : ℕ) → m ≡ tallied h 0 m
 tallied-none m h =
     ap (λ (n : ℕ). record m { steps = n }) (let e : m.steps ≡ m.steps + 0 = omega arith in e)
-    ∙ ap (λ (ks : List Kept). record m { parts = record m.parts { harts = ks }; steps = m.steps + 0 }) (sym (none-hit h (hart_among m.harts h).domain m.parts.harts))
+    ∙ ap (λ (ks : List Kept). record m { parts = record m.parts { harts = ks }; steps = m.steps + 0 })
+    (sym (none-hit h (hart_among m.harts h).domain m.parts.harts))
 
 -- an instruction leaves the domain
-unfetched-domain : (m : Held) (h : ℕ) → h < length m.harts → (hart_among (after_unfetched h m).harts h).domain ≡ (hart_among m.harts h).domain
+unfetched-domain : (m : Held) (h : ℕ) → h < length m.harts → (hart_among (after_unfetched h m).harts h).domain
+    ≡ (hart_among m.harts h).domain
 unfetched-domain m h there =
     let x = hart_among m.harts h in
     let y : Hart = instructed (regs_after (perm_for m x) m.parts.ram x.regs x.pc false (effect_for m x)) (outcome_for m h false) x in
@@ -102,28 +109,30 @@ names-own m k h there kept after own =
     let x = hart_among m.harts h in
     let stays = (stay-all m.parts h x.domain (touches_of (effect_for m x)) m.parts.harts kept own).domain in
     let left = looks_all m.parts h x.domain (touches_of (effect_for m x)) m.parts.harts in
-    let there' : NamesOwn (after_unfetched h m) h = subst (λ (d : ℕ). IfSome (kept_at left h).domain (λ e. e ≡ d)) (sym (unfetched-domain m h there)) stays in
+    let there' : NamesOwn (after_unfetched h m) h = subst (λ (d : ℕ). IfSome (kept_at left h).domain (λ e. e ≡ d))
+    (sym (unfetched-domain m h there)) stays in
     subst (λ (y : Held). NamesOwn y h) (sym after) there'
 
 -- an instruction more, with the turns before it counted
 module _ (m : Held) (h n : ℕ) (there : h < length m.harts) (kept : h < length m.parts.harts)
-    (hand : IsAtHand (length (map_of m.parts.maps (hart_among m.harts h).domain)) (kept_at m.parts.harts h).cache (hart_among m.harts h).pc) where
-  tallied-harts : at_hart h (hits_all (n + 1) (hart_among (after_unfetched h m).harts h).domain) (after_unfetched h m).parts.harts
-      ≡ (after_instruction h false (counted (tallied h n m))).parts.harts
-  tallied-harts =
-      let x = hart_among m.harts h in
-      let d = x.domain in
-      let q = m.parts in
-      let ts = touches_of (effect_for m x) in
-      let left = looks_all q h d ts q.harts in
-      let before = at_hart h (hits_all n d) q.harts in
-      let at : IsAtHand (length (map_of q.maps d)) (kept_at before h).cache x.pc =
-      hand-same (length (map_of q.maps d)) x.pc (kept_at q.harts h).cache (kept_at before h).cache (places-kept m h n kept) hand in
-      ap (λ (e : ℕ). at_hart h (hits_all (n + 1) e) left) (unfetched-domain m h there)
-      ∙ ap (λ (i : ℕ). at_hart h (hits_all i d) left) (add-one n)
-      ∙ sym (touched-hits q h d (suc n) ts q.harts kept)
-      ∙ ap (λ (ks : List Kept). looks_all q h d ts ks) (sym (more-hit h n d q.harts kept)
-      ∙ looked-hit q.buffer q.kind (map_of q.maps d) h d x.pc before at)
+    (hand : IsAtHand (length (map_of m.parts.maps (hart_among m.harts h).domain)) (kept_at m.parts.harts h).cache (hart_among m.harts h).pc)
+  where
+    tallied-harts : at_hart h (hits_all (n + 1) (hart_among (after_unfetched h m).harts h).domain) (after_unfetched h m).parts.harts
+        ≡ (after_instruction h false (counted (tallied h n m))).parts.harts
+    tallied-harts =
+        let x = hart_among m.harts h in
+        let d = x.domain in
+        let q = m.parts in
+        let ts = touches_of (effect_for m x) in
+        let left = looks_all q h d ts q.harts in
+        let before = at_hart h (hits_all n d) q.harts in
+        let at : IsAtHand (length (map_of q.maps d)) (kept_at before h).cache x.pc =
+        hand-same (length (map_of q.maps d)) x.pc (kept_at q.harts h).cache (kept_at before h).cache (places-kept m h n kept) hand in
+        ap (λ (e : ℕ). at_hart h (hits_all (n + 1) e) left) (unfetched-domain m h there)
+        ∙ ap (λ (i : ℕ). at_hart h (hits_all i d) left) (add-one n)
+        ∙ sym (touched-hits q h d (suc n) ts q.harts kept)
+        ∙ ap (λ (ks : List Kept). looks_all q h d ts ks) (sym (more-hit h n d q.harts kept)
+        ∙ looked-hit q.buffer q.kind (map_of q.maps d) h d x.pc before at)
 
-  pub instruction-tallied : tallied h (n + 1) (after_unfetched h m) ≡ after_instruction h false (counted (tallied h n m))
-  instruction-tallied = search (arith, m.steps, tallied-harts)
+    pub instruction-tallied : tallied h (n + 1) (after_unfetched h m) ≡ after_instruction h false (counted (tallied h n m))
+    instruction-tallied = search (arith, m.steps, tallied-harts)

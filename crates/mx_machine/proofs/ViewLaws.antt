@@ -25,7 +25,8 @@ held_of {T} {N} tables b = record {
 
 -- touches of the bus change the checker's harts and RAM alone
 pub touched-held : (m : Held) (q : Parts) (hs hs' : List Hart) (kept' : List Kept) (ram' : List ℕ) →
-    q.kind ≡ m.parts.kind → q.buffer ≡ m.parts.buffer → q.maps ≡ m.parts.maps → q.size ≡ m.parts.size → q.limit ≡ m.parts.limit → q.owners ≡ m.parts.owners →
+    q.kind ≡ m.parts.kind → q.buffer ≡ m.parts.buffer → q.maps ≡ m.parts.maps → q.size ≡ m.parts.size → q.limit ≡ m.parts.limit
+    → q.owners ≡ m.parts.owners →
     q.gates ≡ m.parts.gates → q.heaps ≡ m.parts.heaps → q.harts ≡ kept' → q.ram ≡ ram' → hs ≡ hs' →
     record m { parts = q; harts = hs } ≡ record m { parts = record m.parts { harts = kept'; ram = ram' }; harts = hs' }
 touched-held m q hs hs' kept' ram' a b c d e f g h i j k = rw (← a, ← b, ← c, ← d, ← e, ← f, ← g, ← h, ← i, ← j, ← k) refl
@@ -37,7 +38,11 @@ instructed_in m h returns d =
     let perm = perm_from m.parts.size m.parts.maps d in
     let e = fetched perm m.parts.ram x.regs x.pc in
     record m {
-      parts = record m.parts { ram = bytes_after perm m.parts.ram e; harts = looks_all m.parts h d (fetch_touch x.pc ∷ touches_of e) m.parts.harts };
+      parts = record m.parts {
+        ram = bytes_after perm m.parts.ram e;
+        harts =
+            looks_all m.parts h d (fetch_touch x.pc ∷ touches_of e) m.parts.harts;
+      };
       harts = stepped h (instructed (regs_after perm m.parts.ram x.regs x.pc returns e) (outcome_of perm x.pc returns e)) m.harts;
     }
 

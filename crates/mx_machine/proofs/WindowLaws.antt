@@ -1,5 +1,6 @@
 -- Windows: a turn inside one keeps it, and what is found round a hart's pc is one.
-use Rattle.std.proofs.Common.{◌≡◌, ◌≢◌, ℕ, ◌+◌, ◌-◌, ◌*◌, ◌/◌, ◌<◌, ◌≤◌, Bool, true, false, cond, nat_le, nat_lt, List, [], ◌∷◌, length, set, refl, sym, ap, subst, ◌∙◌, arith, get_or-set_same, get_or-set_other, Option, Some, None}
+use Rattle.std.proofs.Common.{◌≡◌, ◌≢◌, ℕ, ◌+◌, ◌-◌, ◌*◌, ◌/◌, ◌<◌, ◌≤◌, Bool, true, false, cond, nat_le, nat_lt, List, [], ◌∷◌, length}
+use Rattle.std.proofs.Common.{set, refl, sym, ap, subst, ◌∙◌, arith, get_or-set_same, get_or-set_other, Option, Some, None}
 use Rattle.std.specs.Option.{option_map_or}
 use Rattle.std.proofs.lemmas.Bool.{and_from, and_parts, leb-true, ltb-true, le-leb, lt-ltb}
 use Rattle.mx_words.specs.declared.perm.Perm.{Perm}
@@ -35,7 +36,8 @@ use Rattle.mx_machine.proofs.FitLaws.{count-step, own-step}
 use Rattle.mx_machine.proofs.MadeLaws.{kept-there}
 
 -- what is at hand follows from place 0 alone
-pub hand-same : (size address : ℕ) (c e : Cache) → in_place e.places 0 ≡ in_place c.places 0 → IsAtHand size c address → IsAtHand size e address
+pub hand-same : (size address : ℕ) (c e : Cache) → in_place e.places 0 ≡ in_place c.places 0 → IsAtHand size c address
+    → IsAtHand size e address
 hand-same size address c e same hand = search arith
 
 -- what is at hand lies in RAM
@@ -50,11 +52,13 @@ module _ (most p domain word : ℕ) (walked : Span) (other : p ≢ 0) where
   walk-elsewhere : (c : Cache) (b : Bool) → in_place (with_walk most p domain walked b c).places 0 ≡ in_place c.places 0
   walk-elsewhere c x = grind (arith, written-elsewhere)
 
-  behind-elsewhere : (c : Cache) (b : Bool) (o : Option Span) → in_place (checked_behind most p domain walked b o c).places 0 ≡ in_place c.places 0
+  behind-elsewhere : (c : Cache) (b : Bool) (o : Option Span)
+      → in_place (checked_behind most p domain walked b o c).places 0 ≡ in_place c.places 0
   behind-elsewhere c b (Some s) = written-elsewhere c.places s
   behind-elsewhere c b None = walk-elsewhere c b
 
-  at-elsewhere : (c : Cache) (b : Bool) (o : Option Span) → in_place (checked_at most p domain word walked b o c).places 0 ≡ in_place c.places 0
+  at-elsewhere : (c : Cache) (b : Bool) (o : Option Span) → in_place (checked_at most p domain word walked b o c).places 0
+      ≡ in_place c.places 0
   at-elsewhere c b (Some s) = refl
   at-elsewhere c b None = behind-elsewhere c b (found_kept c.kept domain word)
 
@@ -62,7 +66,8 @@ module _ (most p domain word : ℕ) (walked : Span) (other : p ≢ 0) where
   checked-elsewhere c b = at-elsewhere c b (found_in_place c.places p word)
 
 -- after a check of hart h
-module _ (most : ℕ) (kind : Kind) (m : List Perm) (h d size a : ℕ) (kept : List Kept) (there : h < length kept) (hand : IsAtHand size (kept_at kept h).cache a) where
+module _ (most : ℕ) (kind : Kind) (m : List Perm) (h d size a : ℕ) (kept : List Kept) (there : h < length kept)
+    (hand : IsAtHand size (kept_at kept h).cache a) where
   step-hand : (step : Kept → Kept) → in_place (step (kept_at kept h)).cache.places 0 ≡ in_place (kept_at kept h).cache.places 0 →
       IsAtHand size (kept_at (at_hart h step kept) h).cache a
   step-hand step same = search (arith, hand-same, own-step)
@@ -77,17 +82,20 @@ module _ (most : ℕ) (kind : Kind) (m : List Perm) (h d size a : ℕ) (kept : L
   look-hand : (p address : ℕ) → p ≢ 0 → IsAtHand size (kept_at (looked_at_address most kind m h p d address kept) h).cache a
   look-hand p address other = look-hand-at p (word_of address (length m)) other
 
-  fetch-hand : (pc : ℕ) → IsAtHand (length m) (kept_at kept h).cache pc → IsAtHand size (kept_at (looked_at_address most kind m h 0 d pc kept) h).cache a
+  fetch-hand : (pc : ℕ) → IsAtHand (length m) (kept_at kept h).cache pc
+      → IsAtHand size (kept_at (looked_at_address most kind m h 0 d pc kept) h).cache a
   fetch-hand pc at =
       subst (λ (ks : List Kept). IsAtHand size (kept_at ks h).cache a) (looked-hit most kind m h d pc kept at) (step-hand (hits d) refl)
 
-pub length-looked-at : (most : ℕ) (kind : Kind) (m : List Perm) (h d p : ℕ) (o : Option ℕ) (kept : List Kept) → length (looked_at most kind m h p d o kept) ≡ length kept
+pub length-looked-at : (most : ℕ) (kind : Kind) (m : List Perm) (h d p : ℕ) (o : Option ℕ) (kept : List Kept)
+    → length (looked_at most kind m h p d o kept) ≡ length kept
 length-looked-at most kind m h d p None kept = count-step kept h (with_domain d)
 length-looked-at most kind m h d p (Some w) kept =
     count-step kept h (looks most p d w (span kind m w) (is_forbidden h (span kind m w) kept))
 
 -- after touches at other places
-away-hand : (q : Parts) (h d size a : ℕ) (ts : List Touch) (kept : List Kept) → h < length kept → AreAway ts → IsAtHand size (kept_at kept h).cache a →
+away-hand : (q : Parts) (h d size a : ℕ) (ts : List Touch) (kept : List Kept) → h < length kept → AreAway ts
+    → IsAtHand size (kept_at kept h).cache a →
     IsAtHand size (kept_at (looks_all q h d ts kept) h).cache a
 away-hand q h d size a [] kept there away hand = hand
 away-hand q h d size a (t ∷ ts) kept there away hand =
@@ -100,7 +108,8 @@ away-hand q h d size a (t ∷ ts) kept there away hand =
 -- an instruction whose fetch is at hand, and which touches other places, leaves what is at hand
 module _ (m : Held) (h : ℕ) (r : MayRun m h) (hand : IsAtHand m.parts.size (kept_at m.parts.harts h).cache (hart_among m.harts h).pc)
     (away : AreAway (touches_of (effect_for m (hart_among m.harts h)))) where
-  kept-hand : (a : ℕ) → IsAtHand m.parts.size (kept_at m.parts.harts h).cache a → IsAtHand m.parts.size (kept_at (after_instruction h false m).parts.harts h).cache a
+  kept-hand : (a : ℕ) → IsAtHand m.parts.size (kept_at m.parts.harts h).cache a
+      → IsAtHand m.parts.size (kept_at (after_instruction h false m).parts.harts h).cache a
   kept-hand a at = search (arith, m.harts, kept-there, r.act.fits.sound.maps, length-looked-at, away-hand, fetch-hand)
 
   same-domain : (hart_among (after_instruction h false m).harts h).domain ≡ (hart_among m.harts h).domain
@@ -131,7 +140,8 @@ place-holds places word s e = by (in_place places 0) refl e
     at t true q = q
     at t false q = absurd (let z : ⊥ = cc in z)
 
-    by : (o : Option Span) → in_place places 0 ≡ o → option_map_or (λ (x : Span). cond (covers_word x word) (Some x) None) o None ≡ Some s → in_place places 0 ≡ Some s
+    by : (o : Option Span) → in_place places 0 ≡ o → option_map_or (λ (x : Span). cond (covers_word x word) (Some x) None) o None ≡ Some s
+        → in_place places 0 ≡ Some s
     by None f q = absurd (let z : ⊥ = cc in z)
     by (Some t) f q = f ∙ at t (covers_word t word) q
 
@@ -157,5 +167,6 @@ module _ (m : Held) (h word first end : ℕ) (s : Span) (quiet : m.waiting ≡ f
         let p = and_parts (nat_le (ram_base + 4 * first) a) (nat_lt (a - (ram_base + 4 * first)) (4 * (end - first))) inside in
         let from : ram_base + 4 * first ≤ a = leb-true (ram_base + 4 * first) a p.0 in
         let upto : a - (ram_base + 4 * first) < 4 * (end - first) = ltb-true (a - (ram_base + 4 * first)) (4 * (end - first)) p.1 in
-        found-open a ((a - ram_base) / 4) (word-there a (omega (arith, from)) (omega (arith, from, upto, within, some))) (omega (arith, from)) (omega (arith, from, upto, some));
+        found-open a ((a - ram_base) / 4) (word-there a (omega (arith, from)) (omega (arith, from, upto, within, some)))
+        (omega (arith, from)) (omega (arith, from, upto, some));
   }

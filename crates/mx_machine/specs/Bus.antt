@@ -7,7 +7,7 @@ use Rattle.mx_words.specs.declared.tables.Kind.{Kind}
 use Rattle.mx_words.specs.declared.tables.Need.{Need}
 use Rattle.mx_words.specs.Ranges.{ram_base, word_of}
 use Rattle.mx_words.specs.Rights.{perm_at}
-use Rattle.mx_table.specs.Tables.{map_of, IsDomain}
+use Rattle.mx_table.specs.Tables.{map_of, IsDomain, KeepsTables}
 use Rattle.mx_check.specs.Conditions.{MayLook}
 use Rattle.mx_check.specs.Harts.{kept_at}
 use Rattle.mx_check.specs.Looks.{looked_at_address, lookups_after}
@@ -36,9 +36,7 @@ pub record IsTouch {T : Type 0} {N : ℕ} (kind : Kind) (maps : T → List (List
     (old : HartBus T N) (place address : ℕ) (new : HartBus T N) : Type 0 where
   pub same_hart : new.hart ≡ old.hart
   pub same_domain : new.domain ≡ old.domain
-  pub same_maps : maps new.supervisor.checker.tables ≡ maps old.supervisor.checker.tables
-  pub same_size : size new.supervisor.checker.tables ≡ size old.supervisor.checker.tables
-  pub same_limit : limit new.supervisor.checker.tables ≡ limit old.supervisor.checker.tables
+  pub same_tables : KeepsTables maps size limit old.supervisor.checker.tables new.supervisor.checker.tables
   pub same_owners : new.supervisor.owners ≡ old.supervisor.owners
   pub same_gates : new.supervisor.gates ≡ old.supervisor.gates
   pub same_heaps : new.supervisor.heaps ≡ old.supervisor.heaps

@@ -1,6 +1,6 @@
 -- What the readers of a machine tell of its state.
 -- The rules: docs/COMMANDS.md, "The report".
-use Rattle.std.specs.Prelude.{◌≡◌, ℕ, Bool, false, length}
+use Rattle.std.specs.Prelude.{◌≡◌, ℕ, Bool, false, length, Option, None}
 use Rattle.mx_words.specs.Hearing.{is_in}
 use Rattle.mx_model.specs.State.{Hart, Module, Status, Running, Waiting, Halted}
 use Rattle.mx_machine.specs.declared.hart.Hart.{Hart as Kept}
@@ -23,6 +23,18 @@ abbrev pub status_by_progress : Progress → HartStatus
 status_by_progress G.Running = V.Running
 status_by_progress G.Waiting = V.Waiting
 status_by_progress (G.Halted code) = V.Halted
+
+-- the code of the exit that ended a hart, where one did
+abbrev pub exit_of : Status → Option ℕ
+exit_of Running = None
+exit_of (Waiting call heard) = None
+exit_of (Halted code) = code
+
+-- the same by what the machine keeps
+abbrev pub exit_by_progress : Progress → Option ℕ
+exit_by_progress G.Running = None
+exit_by_progress G.Waiting = None
+exit_by_progress (G.Halted code) = code
 
 -- a view tells a hart
 pub record IsViewOf (hart : Hart) (view : HartView) : Type 0 where

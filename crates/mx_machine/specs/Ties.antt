@@ -32,7 +32,8 @@ FliesWhileWaiting range flight G.Running = flight ≡ None
 FliesWhileWaiting range flight G.Waiting = IsFlying range flight
 FliesWhileWaiting range flight (G.Halted code) = flight ≡ None
 
--- what is kept of hart h in the machine and in the checker agrees: it is halted in both, its call is in flight where it waits, and the domain that
+-- what is kept of hart h in the machine and in the checker agrees: it is halted in both, its call is in flight where it waits, and the
+-- domain that
 -- the checker keeps is none or its own
 pub record IsTied (range : Call → ℕ × ℕ) (h : ℕ) (x : Hart) (k : Kept) : Type 0 where
   pub halted : k.halted ≡ is_halted x.progress

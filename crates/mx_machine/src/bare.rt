@@ -1,5 +1,6 @@
 //! What a machine holds, and the parts of a turn, each as one step of it.
-ghost use Rattle.std.specs.Prelude.{◌≡◌, ℕ, ◌+◌, ◌%◌, ◌^◌, ◌<◌, ◌≤◌, ◌⊎◌, ◌*◌, true, false, length, slice_index_or, Some, None};
+ghost use Rattle.std.specs.Prelude.{◌≡◌, ℕ, ◌+◌, ◌%◌, ◌^◌, ◌<◌, ◌≤◌, ◌⊎◌, ◌*◌, true, false, length, slice_index_or};
+ghost use Rattle.std.specs.Prelude.{Some, None};
 ghost use Rattle.mx_words.specs.Announced.{is_announced};
 ghost use Rattle.mx_words.specs.Ranges.{most_words};
 ghost use Rattle.mx_words.specs.Limits.{most_frames};
@@ -15,7 +16,8 @@ ghost use Rattle.mx_model.specs.Effect.{effect};
 ghost use Rattle.mx_model.specs.declared.values.Note.TheVariants as Notes;
 ghost use Rattle.mx_supervisor.specs.Parts.{AreJoined, IsSound};
 ghost use Rattle.mx_supervisor.specs.Served.{range_of};
-ghost use Rattle.mx_machine.specs.Actions.{after_instruction, after_unfetched, crossed, effect_for, halted_first, fallen, heard, killed, outcome_for, returned, with_kept, with_step};
+ghost use Rattle.mx_machine.specs.Actions.{after_instruction, after_unfetched, crossed, effect_for, halted_first};
+ghost use Rattle.mx_machine.specs.Actions.{fallen, heard, killed, outcome_for, returned, with_kept, with_step};
 ghost use Rattle.mx_machine.specs.AtGate.{gate_here};
 ghost use Rattle.mx_machine.specs.Halting.{halted_at};
 ghost use Rattle.mx_machine.specs.Harts.{hart_among, is_halted};
@@ -35,7 +37,8 @@ use std::marker::Model;
 /// The cause of a fault in a dead domain, which kills none.
 pub const DEAD: u32 = 20;
 
-/// The supervisor with the bus before it, the harts, the modules' stack areas, by number which domains are dead, the number of turns made,
+/// The supervisor with the bus before it, the harts, the modules' stack areas, by number which domains are dead, the
+/// number of turns made,
 /// and whether some hart may wait.
 #[derive(Drop)]
 pub struct Bare<T: PermTables, const N: usize> {
@@ -119,7 +122,8 @@ impl<T: PermTables, const N: usize> Bare<T, N> {
         self.harts.instruct(hart, &mut self.bus, returns)
     }
 
-    /// Carries out an instruction whose fetch at the hart's pc is at hand, and isn't counted. It isn't at a return gate.
+    /// Carries out an instruction whose fetch at the hart's pc is at hand, and isn't counted. It isn't at a return
+    /// gate.
     #[inline(always)]
     pub fn carry_out(&mut self, hart: u32, inst: Inst) -> Outcome
         requires sound { IsSound self.old.parts }

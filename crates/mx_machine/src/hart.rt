@@ -1,13 +1,15 @@
 //! One hart: its registers, pc, domain and frames, and the steps that a turn makes of them.
-ghost use Rattle.std.specs.Prelude.{◌≡◌, ◌<◌, ◌%◌, is_some, unwrap_or, option_map, length, replicate, slice_index, slice_set};
+ghost use Rattle.std.specs.Prelude.{◌≡◌, ◌<◌, ◌%◌, is_some, unwrap_or, option_map, length, replicate, slice_index};
+ghost use Rattle.std.specs.Prelude.{slice_set};
 ghost use Rattle.mx_words.specs.Limits.{most_frames};
 ghost use Rattle.mx_isa.specs.Ranges.{IsValid as IsInst};
 ghost use Rattle.mx_model.specs.Gates.{nearest, top};
 ghost use Rattle.mx_model.specs.Turn.{restored, saved};
-ghost use Rattle.mx_machine.specs.Readings.{status_by_progress, TellsHart, TellsPlace};
+ghost use Rattle.mx_machine.specs.Readings.{exit_by_progress, status_by_progress, TellsHart, TellsPlace};
 ghost use Rattle.mx_machine.specs.Harts.{no_held_hart, own_call};
 ghost use Rattle.mx_machine.specs.Starts.{resumed_hart};
-ghost use Rattle.mx_machine.specs.Steps.{instructed, regs_carried, regs_left, CarriesOut, Instructs, goes, waits, halts, takes_answer, enters, leaves, gives_up, returns_over};
+ghost use Rattle.mx_machine.specs.Steps.{instructed, regs_carried, regs_left, CarriesOut, Instructs, goes, waits};
+ghost use Rattle.mx_machine.specs.Steps.{halts, takes_answer, enters, leaves, gives_up, returns_over};
 
 use crate::{HartPlace, HartState, HartStatus, HartView};
 use mx_core::{Bus, Outcome, Regs, act_on, exec};
@@ -100,6 +102,16 @@ impl Hart {
             Progress::Running => HartStatus::Running,
             Progress::Waiting => HartStatus::Waiting,
             Progress::Halted(_) => HartStatus::Halted,
+        }
+    }
+
+    /// The code of the exit that ended it, where one did.
+    pub fn exit(&self) -> Option<u32>
+        ensures { result ≡ exit_by_progress self.now.progress }
+    {
+        match self.progress {
+            Progress::Running | Progress::Waiting => None,
+            Progress::Halted(code) => code,
         }
     }
 
@@ -225,7 +237,8 @@ impl Hart {
         }
     }
 
-    /// After a fault: gives up the top frame and goes on in its caller, with the cause in x10; without a frame it is halted. Whether
+    /// After a fault: gives up the top frame and goes on in its caller, with the cause in x10; without a frame it is
+    /// halted. Whether
     /// there was a frame.
     pub fn give_up(&mut self, cause: u32) -> bool
         requires { cause < 256 }

@@ -1,5 +1,6 @@
 //! The harts of a machine.
-ghost use Rattle.std.specs.Prelude.{◌≡◌, ℕ, ◌<◌, ◌≤◌, ◌%◌, ◌+◌, ◌*◌, ◌⊎◌, is_some, unwrap_or, option_map, IfSome, length, slice_index, slice_set, slice_get};
+ghost use Rattle.std.specs.Prelude.{◌≡◌, ℕ, ◌<◌, ◌≤◌, ◌%◌, ◌+◌, ◌*◌, ◌⊎◌, is_some, unwrap_or, option_map, IfSome};
+ghost use Rattle.std.specs.Prelude.{length, slice_index, slice_set, slice_get};
 ghost use Rattle.std.specs.List.{list_any, list_all, AllByRecursion};
 ghost use Rattle.std.specs.Prelude.{map as list_map};
 ghost use Rattle.mx_words.specs.Ranges.{most_words};
@@ -10,9 +11,10 @@ ghost use Rattle.mx_model.specs.Effect.{reg};
 ghost use Rattle.mx_model.specs.Gates.{nearest, top};
 ghost use Rattle.mx_machine.specs.Harts.{hart_among, stepped, own_call, is_halted, is_waiting};
 ghost use Rattle.mx_machine.specs.Held.{area_of};
-ghost use Rattle.mx_machine.specs.Readings.{TellsHart, TellsPlace};
+ghost use Rattle.mx_machine.specs.Readings.{TellsHart, TellsPlace, exit_by_progress};
 ghost use Rattle.mx_machine.specs.Starts.{started_from, resumed_hart};
-ghost use Rattle.mx_machine.specs.Steps.{instructed, regs_carried, regs_left, CarriesOut, Instructs, goes, waits, halts, takes_answer, enters, gives_up, returns_over};
+ghost use Rattle.mx_machine.specs.Steps.{instructed, regs_carried, regs_left, CarriesOut, Instructs, goes, waits};
+ghost use Rattle.mx_machine.specs.Steps.{halts, takes_answer, enters, gives_up, returns_over};
 
 use crate::hart::{Hart, Progress};
 use crate::{HartPlace, HartStates, HartView, Stacks, Starts};
@@ -209,6 +211,15 @@ impl Harts {
     {
         let part = &self.items[hart as usize];
         part.place()
+    }
+
+    /// As `Hart::exit`, for one hart.
+    pub fn exit(&self, hart: u32) -> Option<u32>
+        requires { hart < length self.now }
+        ensures { result ≡ exit_by_progress (hart_among self.now hart).progress }
+    {
+        let part = &self.items[hart as usize];
+        part.exit()
     }
 
     /// The registers x0 to x31 of one hart.

@@ -62,7 +62,8 @@ impl<T: PermTables, const N: usize> Bare<T, N> {
         None
     }
 
-    /// Turns of a hart that runs in a live domain, inside a window, at most so many: until the hart stands outside, its row doesn't carry
+    /// Turns of a hart that runs in a live domain, inside a window, at most so many: until the hart stands outside, its
+    /// row doesn't carry
     /// the instruction out, or the instruction doesn't just go on.
     #[inline(always)]
     fn row_inside(&mut self, hart: u32, window: &Window, most: u64) -> Row

@@ -1,4 +1,5 @@
-//! The machine: harts that make turns over a supervisor. One call of `step` is one turn of one hart, and what the machine means is
+//! The machine: harts that make turns over a supervisor. One call of `step` is one turn of one hart, and what the
+//! machine means is
 //! a flat state of the abstract machine.
 #![tactic(auto)]
 

@@ -28,10 +28,12 @@ use mx_table::{PermTables, shape_of};
 use mx_words::MOST_DOMAINS;
 use std::marker::Model;
 
-/// A machine of 1 to 4 harts over a supervisor. What it means is a flat state of the abstract machine (docs/MACHINE.md): RAM's bytes,
+/// A machine of 1 to 4 harts over a supervisor. What it means is a flat state of the abstract machine
+/// (docs/MACHINE.md): RAM's bytes,
 /// one map per module, the owner of each word, gates, blocks, harts with their frames, and how many turns were made.
 ///
-/// Hart numbers are below the number of harts, domains are those of the modules, from 1 on, words are below those of RAM and places
+/// Hart numbers are below the number of harts, domains are those of the modules, from 1 on, words are below those of
+/// RAM and places
 /// of bytes below four times that, unless a call says otherwise.
 #[derive(Drop)]
 pub struct Machine<T: PermTables, const N: usize> {
@@ -52,9 +54,12 @@ impl<T: PermTables, const N: usize> Model for Machine<T, N> {
 }
 
 impl<T: PermTables, const N: usize> Machine<T, N> {
-    /// A machine that starts: its harts stand at their starts with all registers zero but x2, the address after the stack area of
-    /// their domain for them. The supervisor's parts belong together, and each gate is for a word of RAM and between modules. There is
-    /// one start for each hart of the checker, which has done nothing yet, and one stack area for each module, which lies in RAM for
+    /// A machine that starts: its harts stand at their starts with all registers zero but x2, the address after the
+    /// stack area of
+    /// their domain for them. The supervisor's parts belong together, and each gate is for a word of RAM and between
+    /// modules. There is
+    /// one start for each hart of the checker, which has done nothing yet, and one stack area for each module, which
+    /// lies in RAM for
     /// all harts or has no words.
     pub fn new(parts: Supervisor<T, N>, starts: &Starts, stacks: &Stacks) -> Machine<T, N>
         requires joined { AreJoined (parts_of T.PermTables parts) }
@@ -86,8 +91,10 @@ impl<T: PermTables, const N: usize> Machine<T, N> {
         }
     }
 
-    /// A machine that goes on as it was left. The supervisor's parts, gates and stack areas are as for `new`. There is one hart state
-    /// for each hart of the checker, in which the caches are empty, no hart is halted, and a call is in flight for exactly the harts
+    /// A machine that goes on as it was left. The supervisor's parts, gates and stack areas are as for `new`. There is
+    /// one hart state
+    /// for each hart of the checker, in which the caches are empty, no hart is halted, and a call is in flight for
+    /// exactly the harts
     /// that wait: that of their registers. `dead` is true for modules alone, and at most 2^63 - 1 turns were made.
     pub fn resume(
         parts: Supervisor<T, N>,
@@ -129,11 +136,14 @@ impl<T: PermTables, const N: usize> Machine<T, N> {
         Machine { bare }
     }
 
-    /// One turn of the hart of that number, which may be none (docs/MACHINE.md, "One turn"). What stood in `out` is dropped; the
+    /// One turn of the hart of that number, which may be none (docs/MACHINE.md, "One turn"). What stood in `out` is
+    /// dropped; the
     /// console bytes and the note of the turn are put there. Fewer than 2^64 - 1 turns were made.
     ///
-    /// Isolation: the turn leaves the words that the hart's domain may not write, but for a new block of an alloc, which lies in the
-    /// domain's own heap area and is zero; and it keeps the hart's frames, pushes one with its fifteen registers, or gives up the top
+    /// Isolation: the turn leaves the words that the hart's domain may not write, but for a new block of an alloc,
+    /// which lies in the
+    /// domain's own heap area and is zero; and it keeps the hart's frames, pushes one with its fifteen registers, or
+    /// gives up the top
     /// one and goes on as that says.
     pub fn step(&mut self, hart: u32, out: &mut Events) -> TurnKind
         requires { self.old.core.turns < 2 ^ 64 - 1 }
@@ -156,9 +166,12 @@ impl<T: PermTables, const N: usize> Machine<T, N> {
         self.bare.step(hart, out)
     }
 
-    /// Turns of the hart of that number in a row, at least one and at most so many: it makes turns until one doesn't just carry out
-    /// an instruction, or so many are made. Each is a turn as `step` makes it; what stands in `out` is of the last alone. Those before
-    /// it add nothing: no right, no owner, no console byte and no note. There is at least one to make, and fewer than 2^64 turns are
+    /// Turns of the hart of that number in a row, at least one and at most so many: it makes turns until one doesn't
+    /// just carry out
+    /// an instruction, or so many are made. Each is a turn as `step` makes it; what stands in `out` is of the last
+    /// alone. Those before
+    /// it add nothing: no right, no owner, no console byte and no note. There is at least one to make, and fewer than
+    /// 2^64 turns are
     /// made with them.
     pub fn run_on(&mut self, hart: u32, most: u64, out: &mut Events) -> Stretch
         requires some { 1 ≤ most }

@@ -1,6 +1,8 @@
-//! What is read of a machine. In every call a hart is below `harts()`, a domain is from 1 to `modules()`, and a word is below `words()`;
+//! What is read of a machine. In every call a hart is below `harts()`, a domain is from 1 to `modules()`, and a word is
+//! below `words()`;
 //! word w of RAM has the address 0x80000000 + 4w. A place in a list may be any number.
-ghost use Rattle.std.specs.Prelude.{◌≡◌, ◌≢◌, ℕ, false, ◌+◌, ◌*◌, ◌<◌, ◌≤◌, length, slice_get, slice_index, slice_range};
+ghost use Rattle.std.specs.Prelude.{◌≡◌, ◌≢◌, ℕ, false, ◌+◌, ◌*◌, ◌<◌, ◌≤◌, length, slice_get, slice_index};
+ghost use Rattle.std.specs.Prelude.{slice_range};
 ghost use Rattle.std.specs.Option.{option_map};
 ghost use Rattle.mx_words.specs.Need.{need};
 ghost use Rattle.mx_words.specs.Reach.{stored};
@@ -12,7 +14,7 @@ ghost use Rattle.mx_model.specs.Run.{all_halted};
 ghost use Rattle.mx_model.specs.State.{cache_at, hart_at, module_at};
 ghost use Rattle.mx_model.specs.Valid.{IsModule, IsValid};
 ghost use Rattle.mx_coherence.specs.Coherence.{KeepsNoStaleSpan, flat_coherent};
-ghost use Rattle.mx_machine.specs.Readings.{IsAreaOf, IsPlaceOf, IsViewOf, was_heard};
+ghost use Rattle.mx_machine.specs.Readings.{IsAreaOf, IsPlaceOf, IsViewOf, exit_of, was_heard};
 
 use crate::{HartPlace, HartView, Machine, StackArea};
 use mx_check::Counts;
@@ -74,6 +76,14 @@ impl<T: PermTables, const N: usize> Machine<T, N> {
         self.bare.harts.place(hart)
     }
 
+    /// The code of the exit that ended a hart, where one did.
+    pub fn exit(&self, hart: u32) -> Option<u32>
+        requires { hart < length self.now.core.harts }
+        ensures { result ≡ exit_of (hart_at self.now.core hart).status }
+    {
+        self.bare.harts.exit(hart)
+    }
+
     /// The registers x0 to x31 of a hart.
     pub fn regs(&self, hart: u32) -> &[u32; 32]
         requires { hart < length self.now.core.harts }
@@ -91,7 +101,8 @@ impl<T: PermTables, const N: usize> Machine<T, N> {
         self.bare.bus.supervisor.checker.perm(domain, word)
     }
 
-    /// What a walk of the tables answers for a domain and a word: a span round the word on which the domain has one permission.
+    /// What a walk of the tables answers for a domain and a word: a span round the word on which the domain has one
+    /// permission.
     pub fn span(&self, domain: u32, word: u32) -> Span
         requires domain { IsModule (length self.now.core.modules) domain }
         requires word { word < self.now.core.size }
@@ -100,7 +111,8 @@ impl<T: PermTables, const N: usize> Machine<T, N> {
         self.bare.bus.supervisor.checker.tables().span(domain, word)
     }
 
-    /// The first word after the run of words, round a word, on which a domain has that word's permission. It goes from span to span.
+    /// The first word after the run of words, round a word, on which a domain has that word's permission. It goes from
+    /// span to span.
     pub fn perm_end(&self, domain: u32, word: u32) -> u32
         requires domain { IsModule (length self.now.core.modules) domain }
         requires word { word < self.now.core.size }
@@ -217,7 +229,8 @@ impl<T: PermTables, const N: usize> Machine<T, N> {
         self.bare.bus.supervisor.gate(i)
     }
 
-    /// The live block of a domain at place `i`, in the order of their addresses. `None` exactly where no more than `i` live.
+    /// The live block of a domain at place `i`, in the order of their addresses. `None` exactly where no more than `i`
+    /// live.
     pub fn block(&self, domain: u32, i: u32) -> Option<Block>
         requires { IsModule (length self.now.core.modules) domain }
         ensures { option_map area_of result ≡ slice_get (module_at self.now.core domain).blocks i }
@@ -233,7 +246,8 @@ impl<T: PermTables, const N: usize> Machine<T, N> {
         self.bare.bus.supervisor.heap_area(domain)
     }
 
-    /// Frame `i` of a hart, from the bottom of its cross stack. `None` exactly where `i` isn't below the number of frames.
+    /// Frame `i` of a hart, from the bottom of its cross stack. `None` exactly where `i` isn't below the number of
+    /// frames.
     pub fn frame(&self, hart: u32, i: u32) -> Option<Frame>
         requires { hart < length self.now.core.harts }
         ensures { result ≡ slice_get (hart_at self.now.core hart).frames i }
@@ -264,7 +278,8 @@ impl<T: PermTables, const N: usize> Machine<T, N> {
     }
 }
 
-/// A law: what a machine means is valid, and has a map for each module, each as long as RAM, and an owner for each word.
+/// A law: what a machine means is valid, and has a map for each module, each as long as RAM, and an owner for each
+/// word.
 pub fn machine_is_valid<T: PermTables, const N: usize>(machine: &Machine<T, N>)
     ensures valid { IsValid machine.now.core }
     ensures maps { length machine.now.maps ≡ length machine.now.core.modules }
@@ -275,8 +290,10 @@ pub fn machine_is_valid<T: PermTables, const N: usize>(machine: &Machine<T, N>)
     let _ = &machine.bare;
 }
 
-/// A law: the caches of what a machine means are coherent. So each hart that isn't halted has on each word of each span that it keeps
-/// the permission that the span says, by the maps as they are now, and none of its spans meets the range of a call in flight that it
+/// A law: the caches of what a machine means are coherent. So each hart that isn't halted has on each word of each span
+/// that it keeps
+/// the permission that the span says, by the maps as they are now, and none of its spans meets the range of a call in
+/// flight that it
 /// has heard.
 pub fn running_harts_are_current<T: PermTables, const N: usize>(machine: &Machine<T, N>)
     ensures coherent { flat_coherent machine.now }

@@ -75,7 +75,8 @@ impl Starts {
     }
 }
 
-/// The stack area of a module: the words from `first` on, `words` of them for each hart from 0 on, 0 for none. And whether the
+/// The stack area of a module: the words from `first` on, `words` of them for each hart from 0 on, 0 for none. And
+/// whether the
 /// module is killing.
 #[derive(Clone, Copy, PartialEq, Eq, Debug, Default)]
 pub struct StackArea {
@@ -179,7 +180,8 @@ pub struct HartState {
 }
 
 impl Default for HartState {
-    /// What a place of a list holds before a hart is pushed there: halted, in no domain, all registers zero, without frames.
+    /// What a place of a list holds before a hart is pushed there: halted, in no domain, all registers zero, without
+    /// frames.
     fn default() -> HartState
         ensures { result ≡ no_state }
     {
@@ -265,7 +267,8 @@ fn start_of(start: &HartStart)
     let _pc = start.pc;
 }
 
-/// A law: the states are at most as many as the harts may be, each has at most as many frames as a cross stack holds, and
+/// A law: the states are at most as many as the harts may be, each has at most as many frames as a cross stack holds,
+/// and
 /// what they hold are numbers of 32 bits.
 pub(crate) fn states_of(states: &HartStates)
     ensures few { length states.now ≤ most_harts }

@@ -1,4 +1,5 @@
-//! Turns of one hart in a row. While they carry out instructions and no more, the hart runs on in its domain: only the gate at its
+//! Turns of one hart in a row. While they carry out instructions and no more, the hart runs on in its domain: only the
+//! gate at its
 //! pc is asked about before each, and inside a window not even that.
 ghost use Rattle.std.specs.Prelude.{◌≡◌, ◌↔◌, ◌+◌, ◌-◌, ◌^◌, ◌<◌, ◌≤◌, true};
 ghost use Rattle.mx_model.specs.Events.{no_events};
@@ -49,7 +50,8 @@ impl<T: PermTables, const N: usize> Bare<T, N> {
         Stretch { ran: room, last }
     }
 
-    /// The rest of a row of which some turns were made, up to so many; the row, where one ended it. Where none is left nothing is done.
+    /// The rest of a row of which some turns were made, up to so many; the row, where one ended it. Where none is left
+    /// nothing is done.
     #[inline(always)]
     fn more(&mut self, hart: u32, made: u64, room: u64, out: &mut Events) -> Option<Stretch>
         requires whole { IsWhole self.old }
@@ -67,7 +69,8 @@ impl<T: PermTables, const N: usize> Bare<T, N> {
         }
     }
 
-    /// How many turns before the last of so many a hart makes, if none of them ends its run: all of them where it runs in a live
+    /// How many turns before the last of so many a hart makes, if none of them ends its run: all of them where it runs
+    /// in a live
     /// domain, and none where it doesn't.
     fn before_last(&self, hart: u32, most: u64) -> u64
         requires whole { IsWhole self.now }

@@ -122,7 +122,8 @@ impl<T: PermTables, const N: usize> Bare<T, N> {
         }
     }
 
-    /// A running hart at a gate: a call gate leads into another domain, and a return gate back out of its own; at a return gate an
+    /// A running hart at a gate: a call gate leads into another domain, and a return gate back out of its own; at a
+    /// return gate an
     /// instruction that doesn't return is carried out as anywhere, and the hart goes on.
     // Cold: most turns stand at no gate, and the row of turns is laid out for them.
     #[cold]
@@ -233,7 +234,8 @@ impl<T: PermTables, const N: usize> Bare<T, N> {
         }
     }
 
-    /// An ECALL: a call that changes rights is announced, and waits unless it may take effect at once; any other is served.
+    /// An ECALL: a call that changes rights is announced, and waits unless it may take effect at once; any other is
+    /// served.
     pub fn ask(&mut self, hart: u32, out: &mut Events) -> TurnKind
         requires run { MayRun self.old hart }
         requires empty { out.old ≡ no_events }

@@ -39,7 +39,8 @@ impl Window {
 }
 
 impl<T: PermTables, const N: usize> Bare<T, N> {
-    /// The instruction at the hart's pc, where the hart stands in the window and its row carries the instruction out; nothing where not.
+    /// The instruction at the hart's pc, where the hart stands in the window and its row carries the instruction out;
+    /// nothing where not.
     /// The turn isn't counted.
     #[inline(always)]
     pub fn quick(&mut self, hart: u32, window: &Window) -> Option<Outcome>
@@ -98,7 +99,8 @@ impl<T: PermTables, const N: usize> Bare<T, N> {
         }
     }
 
-    /// A window of a hart round its pc: the words of its place 0's span that may be executed, between the gates of its domain.
+    /// A window of a hart round its pc: the words of its place 0's span that may be executed, between the gates of its
+    /// domain.
     fn window(&self, hart: u32) -> Window
         requires fits { Fits self.now }
         requires there { hart < length self.now.harts }

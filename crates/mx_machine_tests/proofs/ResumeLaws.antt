@@ -1,5 +1,6 @@
 -- A small machine of three harts that goes on: the first waits on a grant that no other has heard, the second is halted, the third runs.
-use Rattle.std.proofs.Common.{◌≡◌, ℕ, zero, suc, ◌+◌, ◌<◌, ◌≤◌, inr, true, false, List, [], ◌∷◌, length, get_or, replicate, Option, Some, unwrap_or, refl, sym, ap, subst, ◌∙◌, arith}
+use Rattle.std.proofs.Common.{◌≡◌, ℕ, zero, suc, ◌+◌, ◌<◌, ◌≤◌, inr, true, false, List, [], ◌∷◌, length, get_or, replicate, Option, Some}
+use Rattle.std.proofs.Common.{unwrap_or, refl, sym, ap, subst, ◌∙◌, arith}
 use Rattle.std.specs.Prelude.{All, slice_index}
 use Rattle.std.specs.List.{AllByRecursion}
 use Rattle.std.proofs.lemmas.List.Elements.{All-cons, All-nil}
@@ -31,7 +32,8 @@ no-one n i e = let f = everywhere n i false in absurd (let q : ⊥ = cc in q)
 pub may-fly : (first count size : ℕ) → size ≡ 16384 → first + count ≤ 16384 → All (IsResumable 3 size) (unheard first count ∷ [])
 may-fly first count size e inside =
     All-cons (IsResumable 3 size) (unheard first count) []
-    (record { hart = omega arith; range = inr (subst (λ n. first + count ≤ n) (sym e) inside); heard = λ i h. no-one 4 i h }) (All-nil (IsResumable 3 size))
+    (record { hart = omega arith; range = inr (subst (λ n. first + count ≤ n) (sym e) inside); heard = λ i h. no-one 4 i h })
+    (All-nil (IsResumable 3 size))
 
 kept-first : (fs : List Flight) → kept_at (waiting_harts fs 3) 0 ≡ waiting_hart fs 0
 unfolding list_below
@@ -58,9 +60,11 @@ left-state p count domain pc regs status maps l = record {
   frames = tt;
 }
 
-module _ (p : Parts) (count first words d0 pc0 : ℕ) (regs0 : List ℕ) (d1 pc1 : ℕ) (regs1 : List ℕ) (d2 pc2 : ℕ) (regs2 : List ℕ) (rows : List (List Span)) (stacks : List StackArea)
+module _ (p : Parts) (count first words d0 pc0 : ℕ) (regs0 : List ℕ) (d1 pc1 : ℕ) (regs1 : List ℕ) (d2 pc2 : ℕ) (regs2 : List ℕ)
+    (rows : List (List Span)) (stacks : List StackArea)
     (laid : AreLaid count 3 rows p.ram p.owners p.heaps stacks) (size : p.size ≡ 16384) (maps : length p.maps ≡ count)
-    (harts : p.harts ≡ waiting_harts (unheard first words ∷ []) 3) (left0 : IsLeft count d0 pc0 regs0) (left1 : IsLeft count d1 pc1 regs1) (left2 : IsLeft count d2 pc2 regs2)
+    (harts : p.harts ≡ waiting_harts (unheard first words ∷ []) 3) (left0 : IsLeft count d0 pc0 regs0) (left1 : IsLeft count d1 pc1 regs1)
+    (left2 : IsLeft count d2 pc2 regs2)
     (number : slice_index regs0 17 ≡ 3) (range : word_range (slice_index regs0 10) (slice_index regs0 11) 16384 ≡ Some (first, words)) where
   abbrev fs : List Flight
   fs = unheard first words ∷ []
@@ -77,7 +81,8 @@ module _ (p : Parts) (count first words d0 pc0 : ℕ) (regs0 : List ℕ) (d1 pc1
 
   unused : (h : ℕ) → h < 3 → IsUnused p h (get_or (left_states d0 pc0 regs0 d1 pc1 regs1 d2 pc2 regs2) h no_state) (kept_at p.harts h)
   unused zero l =
-      subst (λ (k : Kept). IsUnused p 0 (left_state V.Waiting d0 pc0 regs0) k) (sym (ap (λ (hs : List Kept). kept_at hs 0) harts ∙ kept-first fs)) (record {
+      subst (λ (k : Kept). IsUnused p 0 (left_state V.Waiting d0 pc0 regs0) k)
+      (sym (ap (λ (hs : List Kept). kept_at hs 0) harts ∙ kept-first fs)) (record {
         cache = refl;
         halted = refl;
         domain = refl;
@@ -87,18 +92,24 @@ module _ (p : Parts) (count first words d0 pc0 : ℕ) (regs0 : List ℕ) (d1 pc1
         };
       })
   unused (suc zero) l =
-      subst (λ (k : Kept). IsUnused p 1 (left_state V.Halted d1 pc1 regs1) k) (sym (ap (λ (hs : List Kept). kept_at hs 1) harts ∙ kept-second fs))
+      subst (λ (k : Kept). IsUnused p 1 (left_state V.Halted d1 pc1 regs1) k)
+      (sym (ap (λ (hs : List Kept). kept_at hs 1) harts ∙ kept-second fs))
       (record { cache = refl; halted = refl; domain = refl; flight = refl })
   unused (suc (suc zero)) l =
-      subst (λ (k : Kept). IsUnused p 2 (left_state V.Running d2 pc2 regs2) k) (sym (ap (λ (hs : List Kept). kept_at hs 2) harts ∙ kept-third fs))
+      subst (λ (k : Kept). IsUnused p 2 (left_state V.Running d2 pc2 regs2) k)
+      (sym (ap (λ (hs : List Kept). kept_at hs 2) harts ∙ kept-third fs))
       (record { cache = refl; halted = refl; domain = refl; flight = refl })
   unused (suc (suc (suc h))) l = absurd (omega (arith, l))
 
-  pub small-resumes : (steps : ℕ) → steps ≤ 1000 → MayResume p (left_states d0 pc0 regs0 d1 pc1 regs1 d2 pc2 regs2) stacks (replicate 64 false) steps
+  pub small-resumes : (steps : ℕ) → steps ≤ 1000 → MayResume p (left_states d0 pc0 regs0 d1 pc1 regs1 d2 pc2 regs2) stacks
+      (replicate 64 false) steps
   small-resumes steps few = record {
     some_harts = omega arith;
     same_harts = ap (λ (hs : List Kept). length hs) harts ∙ kept-count fs;
-    each = (left-state p count d0 pc0 regs0 V.Waiting maps left0, (left-state p count d1 pc1 regs1 V.Halted maps left1, (left-state p count d2 pc2 regs2 V.Running maps left2, tt)));
+    each = (
+      left-state p count d0 pc0 regs0 V.Waiting maps left0,
+      (left-state p count d1 pc1 regs1 V.Halted maps left1, (left-state p count d2 pc2 regs2 V.Running maps left2, tt)),
+    );
     unused = λ h l. unused h l;
     count = laid.one_area ∙ sym maps;
     areas = subst (λ n. AllByRecursion (IsStack n 3) stacks) (sym size) laid.areas;

@@ -1,4 +1,5 @@
-//! Machines made by hand after so many turns, with what their turns told; and what tests read of them, which answers nothing where a
+//! Machines made by hand after so many turns, with what their turns told; and what tests read of them, which answers
+//! nothing where a
 //! number is out of range.
 
 use crate::small::{Module, NO_HEAP, Small, machine};
@@ -25,7 +26,8 @@ pub fn turn(machine: &mut Small, hart: u32, out: &mut Events) -> TurnKind {
 }
 
 impl Played {
-    /// Lets the machine go. A value that goes out of scope does the same; this keeps the drop out of the caller's proof.
+    /// Lets the machine go. A value that goes out of scope does the same; this keeps the drop out of the caller's
+    /// proof.
     pub fn end(self) {}
 
     /// The machine, where all went well; else it is let go.

@@ -267,7 +267,8 @@ fn crossings_inside_a_call(alloc: Global) -> Result<Crossings, Fail> {
     Ok(crossings)
 }
 
-/// Where runs of permission end in a machine inside a call, by domain and word: three words of code, the words up to the stack area, a word
+/// Where runs of permission end in a machine inside a call, by domain and word: three words of code, the words up to
+/// the stack area, a word
 /// inside it, the words up to RAM's end; and in domain 2 the words up to its one word, and that word.
 const ENDS: [(u32, u32, u32); 7] = [
     (1, 0, 3),

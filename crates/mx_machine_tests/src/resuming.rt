@@ -8,7 +8,8 @@ use mx_words::Perm;
 use std::alloc::Global;
 use std::test::Fail;
 
-/// Hart 0 grants the first word of its stack area to domain 2 for reading, hart 1 faults after that call, and hart 2 counts in x5
+/// Hart 0 grants the first word of its stack area to domain 2 for reading, hart 1 faults after that call, and hart 2
+/// counts in x5
 /// without end.
 const GRANTS: [u32; 9] = [
     0x8000_1537,
@@ -124,7 +125,8 @@ fn the_readers_tell_who_has_heard_a_call(rt: HostRuntime) -> Result<(), Fail> {
 /// The harts whose turns are made when a machine goes on.
 const TURNS: [u32; 8] = [0, 1, 2, 1, 0, 0, 2, 0];
 
-/// How a machine that was left went on: its harts as it began, after which turns it was like the one that was not left, and its turns
+/// How a machine that was left went on: its harts as it began, after which turns it was like the one that was not left,
+/// and its turns
 /// and the granted permission at the end.
 #[derive(Clone, Copy)]
 struct GoneOn {

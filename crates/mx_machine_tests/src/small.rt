@@ -1,5 +1,6 @@
 //! A small machine made by hand: modules with code and stack areas over 64 KiB of RAM, gates, and where harts start.
-ghost use Rattle.std.specs.Prelude.{◌≡◌, ℕ, ◌+◌, ◌*◌, ◌<◌, ◌≤◌, true, [], ◌∷◌, All, length, slice_index, Some, IfOk, IfSome, OnOk};
+ghost use Rattle.std.specs.Prelude.{◌≡◌, ℕ, ◌+◌, ◌*◌, ◌<◌, ◌≤◌, true, [], ◌∷◌, All, length, slice_index, Some, IfOk};
+ghost use Rattle.std.specs.Prelude.{IfSome, OnOk};
 ghost use Rattle.std.specs.List.{AllByRecursion};
 ghost use Rattle.mx_table.specs.Tables.{IsRow};
 ghost use Rattle.mx_model.specs.Valid.{IsGate};
@@ -39,7 +40,8 @@ pub const AMPLE: Need = Need {
 /// The heap area of a module that has none.
 pub const NO_HEAP: Block = Block { first: 0, count: 0 };
 
-/// A module: the first word of its code, the code's words and their permission, its stack area and whether it is killing, and its heap
+/// A module: the first word of its code, the code's words and their permission, its stack area and whether it is
+/// killing, and its heap
 /// area.
 #[derive(Clone, Copy)]
 pub struct Module<'a> {
@@ -180,7 +182,8 @@ impl Layout {
     }
 }
 
-/// Modules laid out for so many harts. `None` where one doesn't lie in RAM, for more than 63, and where memory is refused.
+/// Modules laid out for so many harts. `None` where one doesn't lie in RAM, for more than 63, and where memory is
+/// refused.
 fn lay_out(alloc: Global, modules: &[Module], harts: u32) -> Option<Layout>
     requires some { 1 ≤ harts }
     requires few { harts ≤ most_harts }
@@ -378,7 +381,8 @@ fn granted_by(waiting: &Left) -> Option<(u32, u32)>
     }
 }
 
-/// A machine of three harts that goes on: the first waits on a grant that no other has heard, the second is halted, and the third
+/// A machine of three harts that goes on: the first waits on a grant that no other has heard, the second is halted, and
+/// the third
 /// runs. `None` where one of them doesn't fit, and where memory is refused.
 pub fn resumed(
     alloc: Global,

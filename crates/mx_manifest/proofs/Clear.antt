@@ -1,5 +1,6 @@
 -- What a table keeps that has no fault.
-use Rattle.std.proofs.Common.{◌≡◌, ℕ, ◌<◌, ◌≤◌, suc, zero, Bool, true, false, not, nat_le, List, [], ◌∷◌, length, get_or, map, Option, Some, None, refl, ap, arith, if◌then◌else◌}
+use Rattle.std.proofs.Common.{◌≡◌, ℕ, ◌<◌, ◌≤◌, suc, zero, Bool, true, false, not, nat_le, List, [], ◌∷◌, length, get_or, map, Option, Some}
+use Rattle.std.proofs.Common.{None, refl, ap, arith, if◌then◌else◌}
 use Rattle.std.proofs.lemmas.Bool.{and_parts}
 use Rattle.std.proofs.lemmas.Bool.Decides.{nat_tests}
 use Rattle.std.specs.Option.{option_map_or}
@@ -21,7 +22,8 @@ use Rattle.mx_manifest.specs.Rows.{most, row, top_rows}
 use Rattle.mx_manifest.specs.Faults.{first_of, is_asked, value_fault, row_fault, rows_fault, table_fault}
 
 -- each test of a list finds nothing where the first of them all finds nothing
-pub clear_at : {A F : Type 0} (test : A → Option F) (xs : List A) (i : ℕ) (d : A) → first_of (map test xs) ≡ None → i < length xs → test (get_or xs i d) ≡ None
+pub clear_at : {A F : Type 0} (test : A → Option F) (xs : List A) (i : ℕ) (d : A) → first_of (map test xs) ≡ None → i < length xs
+    → test (get_or xs i d) ≡ None
 clear_at test [] i d h below = absurd (omega arith)
 clear_at test (x ∷ xs) zero d h below = (neither _ _ h).0
 clear_at test (x ∷ xs) (suc i) d h below = clear_at test xs i d (neither _ _ h).1 (omega arith)
@@ -32,12 +34,14 @@ two_tests true false h = cc
 two_tests false b h = cc
 
 -- a value that is there has its type and lies in its range
-pub value_fits : (t : Data) (r : Row) (value : Data) → row_fault t r ≡ None → get (name_text r.name) t ≡ Some value → (is_typed r.form value ≡ true) × (is_ranged r.form value ≡ true)
+pub value_fits : (t : Data) (r : Row) (value : Data) → row_fault t r ≡ None → get (name_text r.name) t ≡ Some value
+    → (is_typed r.form value ≡ true) × (is_ranged r.form value ≡ true)
 value_fits t r value h at =
     let clear : value_fault r t (get (name_text r.name) t) ≡ None = unmapped _ _ h in
     two_tests (is_typed r.form value) (is_ranged r.form value) (rw at at clear)
 
-asked_there : (t : Data) (r : Row) (value : Option Data) → value_fault r t value ≡ None → is_asked r.asked t ≡ true → (v : Data) × (value ≡ Some v)
+asked_there : (t : Data) (r : Row) (value : Option Data) → value_fault r t value ≡ None → is_asked r.asked t ≡ true
+    → (v : Data) × (value ≡ Some v)
 asked_there t r None h asked = absurd (let e : ◌≡◌ {A = Option ℕ} (if true then Some 3 else None) None = rw asked at h in cc)
 asked_there t r (Some v) h asked = (v, refl)
 
@@ -71,11 +75,14 @@ most_at_most Two one two h = omega arith
 pub any_row : Row
 any_row = row key.Version Always Boolean
 
-pub few_modules : (version : Version) (t : Data) → table_fault (top_rows version) t ≡ None → (1 ≤ length (elements_at key.Module t)) × (length (elements_at key.Module t) ≤ 63)
+pub few_modules : (version : Version) (t : Data) → table_fault (top_rows version) t ≡ None
+    → (1 ≤ length (elements_at key.Module t)) × (length (elements_at key.Module t) ≤ 63)
 few_modules version t h =
-    let parts = array_length t key.Module 1 (most version 15 63) each.Table (clear_at (row_fault t) (top_rows version) 8 any_row (table_clear _ t h) (omega arith)) in
+    let parts = array_length t key.Module 1 (most version 15 63) each.Table
+    (clear_at (row_fault t) (top_rows version) 8 any_row (table_clear _ t h) (omega arith)) in
     (parts.0, omega (arith, parts.1, most_at_most version 15 63 (omega arith)))
 
-pub few_harts : (version : Version) (t : Data) → table_fault (top_rows version) t ≡ None → (1 ≤ length (elements_at key.Hart t)) × (length (elements_at key.Hart t) ≤ 4)
+pub few_harts : (version : Version) (t : Data) → table_fault (top_rows version) t ≡ None
+    → (1 ≤ length (elements_at key.Hart t)) × (length (elements_at key.Hart t) ≤ 4)
 few_harts version t h =
     array_length t key.Hart 1 4 each.Table (clear_at (row_fault t) (top_rows version) 9 any_row (table_clear _ t h) (omega arith))

@@ -26,12 +26,14 @@ home name = table (member (codes "module") (string name) no_members)
 
 abbrev gate : List ℕ → Members
 gate name =
-    member (codes "gates") (array (item (table (member (codes "entry") (integer (pos 0)) (member (codes "from") (array (item (string name) no_items)) no_members))) no_items)) no_members
+    member (codes "gates") (array (item (table (member (codes "entry") (integer (pos 0))
+    (member (codes "from") (array (item (string name) no_items)) no_members))) no_items)) no_members
 
 -- a manifest of a version with more keys, modules and harts
 abbrev manifest : ℕ → Members → Items → Items → Data
 manifest version more modules harts =
-    table (member (codes "version") (integer (pos version)) (member (codes "ram_kib") (integer (pos 64)) (member (codes "module") (array modules) (member (codes "hart") (array harts) more))))
+    table (member (codes "version") (integer (pos version)) (member (codes "ram_kib") (integer (pos 64))
+    (member (codes "module") (array modules) (member (codes "hart") (array harts) more))))
 
 abbrev one : Data → Items
 one d = item d no_items
@@ -46,47 +48,57 @@ accepted : first_fault small ≡ None
 unfolding table_fault module_fault each_fault
 accepted = refl
 
-defaults : map (λ p. (p.upper ∷ p.leaf ∷ p.spill ∷ p.lookaside ∷ p.quantum ∷ [])) (plan_of small ∷ []) ≡ (128 ∷ 4096 ∷ 4096 ∷ 32 ∷ 1 ∷ []) ∷ []
+defaults : map (λ p. (p.upper ∷ p.leaf ∷ p.spill ∷ p.lookaside ∷ p.quantum ∷ [])) (plan_of small ∷ []) ≡ (128 ∷ 4096 ∷ 4096 ∷ 32 ∷ 1 ∷ [])
+    ∷ []
 defaults = refl
 
 domains_from_one : map (λ h. h.module) (plan_of small).harts ≡ 1 ∷ []
 domains_from_one = refl
 
-unknown_version : first_fault (manifest 3 no_members (one (inline (codes "m") no_members)) (one (home (codes "m")))) ≡ fault 5 part.Manifest 0 key.Version
+unknown_version : first_fault (manifest 3 no_members (one (inline (codes "m") no_members)) (one (home (codes "m"))))
+    ≡ fault 5 part.Manifest 0 key.Version
 unfolding table_fault module_fault each_fault
 unknown_version = refl
 
 -- a key that isn't listed comes before a version that is out of range
-unlisted_first : first_fault (manifest 3 (member (codes "color") (integer (pos 1)) no_members) (one (inline (codes "m") no_members)) (one (home (codes "m")))) ≡ fault 2 part.Manifest 0 key.NoKey
+unlisted_first : first_fault (manifest 3 (member (codes "color") (integer (pos 1)) no_members) (one (inline (codes "m") no_members))
+    (one (home (codes "m")))) ≡ fault 2 part.Manifest 0 key.NoKey
 unfolding table_fault module_fault each_fault
 unlisted_first = refl
 
-seal_in_version_one : first_fault (manifest 1 no_members (one (inline (codes "m") (member (codes "seal") (boolean true) no_members))) (one (home (codes "m")))) ≡ fault 2 part.Module 1 key.NoKey
+seal_in_version_one : first_fault (manifest 1 no_members (one (inline (codes "m") (member (codes "seal") (boolean true) no_members)))
+    (one (home (codes "m")))) ≡ fault 2 part.Module 1 key.NoKey
 unfolding table_fault module_fault each_fault
 seal_in_version_one = refl
 
-seal_in_version_two : first_fault (manifest 2 no_members (one (inline (codes "m") (member (codes "seal") (boolean true) no_members))) (one (home (codes "m")))) ≡ None
+seal_in_version_two : first_fault (manifest 2 no_members (one (inline (codes "m") (member (codes "seal") (boolean true) no_members)))
+    (one (home (codes "m")))) ≡ None
 unfolding table_fault module_fault each_fault
 seal_in_version_two = refl
 
-wx_of_inline_words : first_fault (manifest 1 no_members (one (inline (codes "m") (member (codes "wx") (string (codes "rw")) no_members))) (one (home (codes "m")))) ≡ fault 6 part.Module 1 key.Wx
+wx_of_inline_words : first_fault (manifest 1 no_members (one (inline (codes "m") (member (codes "wx") (string (codes "rw")) no_members)))
+    (one (home (codes "m")))) ≡ fault 6 part.Module 1 key.Wx
 unfolding table_fault module_fault each_fault
 wx_of_inline_words = refl
 
-equal_names : first_fault (manifest 1 no_members (item (inline (codes "m") no_members) (one (inline (codes "m") no_members))) (one (home (codes "m")))) ≡ fault 7 part.Module 2 key.Name
+equal_names : first_fault (manifest 1 no_members (item (inline (codes "m") no_members) (one (inline (codes "m") no_members)))
+    (one (home (codes "m")))) ≡ fault 7 part.Module 2 key.Name
 unfolding table_fault module_fault each_fault
 equal_names = refl
 
-gate_from_itself : first_fault (manifest 1 no_members (one (inline (codes "m") (gate (codes "m")))) (one (home (codes "m")))) ≡ fault 8 part.Module 1 key.Gates
+gate_from_itself : first_fault (manifest 1 no_members (one (inline (codes "m") (gate (codes "m")))) (one (home (codes "m"))))
+    ≡ fault 8 part.Module 1 key.Gates
 unfolding table_fault module_fault each_fault
 gate_from_itself = refl
 
 -- names of modules are tested before names in gates
-gate_before_names : first_fault (manifest 1 no_members (item (inline (codes "m") (gate (codes "x"))) (one (inline (codes "m") no_members))) (one (home (codes "m")))) ≡ fault 7 part.Module 2 key.Name
+gate_before_names : first_fault (manifest 1 no_members (item (inline (codes "m") (gate (codes "x"))) (one (inline (codes "m") no_members)))
+    (one (home (codes "m")))) ≡ fault 7 part.Module 2 key.Name
 unfolding table_fault module_fault each_fault
 gate_before_names = refl
 
-hart_without_module : first_fault (manifest 1 no_members (one (inline (codes "m") no_members)) (one (home (codes "n")))) ≡ fault 8 part.Hart 1 key.Module
+hart_without_module : first_fault (manifest 1 no_members (one (inline (codes "m") no_members)) (one (home (codes "n"))))
+    ≡ fault 8 part.Hart 1 key.Module
 unfolding table_fault module_fault each_fault
 hart_without_module = refl
 
@@ -125,7 +137,8 @@ words_alone : first_fault (reading 2 (words 4 no_members)) ≡ fault 3 part.Modu
 unfolding table_fault module_fault each_fault
 words_alone = refl
 
-input_that_executes : first_fault (reading 2 (input (words 4 (member (codes "input_perm") (string (codes "rx")) no_members)))) ≡ fault 5 part.Module 1 key.InputPerm
+input_that_executes : first_fault (reading 2 (input (words 4 (member (codes "input_perm") (string (codes "rx")) no_members))))
+    ≡ fault 5 part.Module 1 key.InputPerm
 unfolding table_fault module_fault each_fault
 input_that_executes = refl
 

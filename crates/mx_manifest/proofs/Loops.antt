@@ -22,18 +22,22 @@ found_from test i values = first_of (map test (map view (drop i values)))
 abbrev pub each_from : Part → (ℕ → Data → Option KeyFault) → ℕ → List Value → Option BootFault
 each_from sort test i values = first_of (map (numbered_fault sort test) (enumerate_from (i + 1) (map view (drop i values))))
 
-pub each_next : (sort : Part) (test : ℕ → Data → Option KeyFault) (values : List Value) (i : ℕ) (v : Value) → i < length values → v ≡ get_or values i v
+pub each_next : (sort : Part) (test : ℕ → Data → Option KeyFault) (values : List Value) (i : ℕ) (v : Value) → i < length values
+    → v ≡ get_or values i v
     → placed sort (i + 1) (test (i + 1) (view v)) ≡ None
     → each_from sort test (i + 1) values ≡ each_from sort test i values
 each_next sort test values i v below at none =
-    let here : placed sort (i + 1) (test (i + 1) (view (get_or values i v))) ≡ None = ap (λ w. placed sort (i + 1) (test (i + 1) (view w))) (sym at) ∙ none in
+    let here : placed sort (i + 1) (test (i + 1) (view (get_or values i v))) ≡ None =
+    ap (λ w. placed sort (i + 1) (test (i + 1) (view w))) (sym at) ∙ none in
     rw (drop_more values i v below, here) refl
 
-pub each_here : (sort : Part) (test : ℕ → Data → Option KeyFault) (values : List Value) (i : ℕ) (v : Value) (fault : BootFault) → i < length values → v ≡ get_or values i v
+pub each_here : (sort : Part) (test : ℕ → Data → Option KeyFault) (values : List Value) (i : ℕ) (v : Value) (fault : BootFault)
+    → i < length values → v ≡ get_or values i v
     → placed sort (i + 1) (test (i + 1) (view v)) ≡ Some fault
     → Some fault ≡ each_from sort test i values
 each_here sort test values i v fault below at some =
-    let here : placed sort (i + 1) (test (i + 1) (view (get_or values i v))) ≡ Some fault = ap (λ w. placed sort (i + 1) (test (i + 1) (view w))) (sym at) ∙ some in
+    let here : placed sort (i + 1) (test (i + 1) (view (get_or values i v))) ≡ Some fault =
+    ap (λ w. placed sort (i + 1) (test (i + 1) (view w))) (sym at) ∙ some in
     rw (drop_more values i v below, here) refl
 
 pub each_over : (sort : Part) (test : ℕ → Data → Option KeyFault) (values : List Value) (i : ℕ) → length values ≤ i

@@ -1,5 +1,6 @@
 -- Values of the code beside the data that they stand for.
-use Rattle.std.proofs.Common.{◌≡◌, ℕ, suc, Bool, true, ◌||◌, ◌&&◌, List, [], ◌∷◌, ◌++◌, length, map, String, Global, string_bytes, refl, ap, ◌∙◌, sym}
+use Rattle.std.proofs.Common.{◌≡◌, ℕ, suc, Bool, true, ◌||◌, ◌&&◌, List, [], ◌∷◌, ◌++◌, length, map, String, Global, string_bytes, refl, ap}
+use Rattle.std.proofs.Common.{◌∙◌, sym}
 use Rattle.std.specs.List.{list_all}
 use Rattle.std.specs.Map.{keys_of}
 use Rattle.std.proofs.lemmas.List.Folds.{list_all-map, list_any-append}
@@ -30,7 +31,8 @@ pub is_listed_append : (rows more : List Row) (name : List ℕ) → (is_listed r
 is_listed_append rows more name = sym (list_any-append _ rows more)
 
 -- a test of all keys, on the map's keys and on the members' names
-pub all_names : (test : List ℕ → Bool) (entries : List (String Global × Value)) → list_all (λ k. test (string_bytes k)) (keys_of entries) ≡ list_all test (member_names (members_view entries))
+pub all_names : (test : List ℕ → Bool) (entries : List (String Global × Value))
+    → list_all (λ k. test (string_bytes k)) (keys_of entries) ≡ list_all test (member_names (members_view entries))
 all_names test [] = refl
 all_names test (e ∷ entries) = ap (λ rest. test (string_bytes e.0) && rest) (all_names test entries)
 
@@ -43,7 +45,8 @@ length-data [] = refl
 length-data (v ∷ values) = ap suc (length-data values)
 
 -- the type and the range of an array, on its values
-pub array_typed : (form : Form) (low high : ℕ) (item : ItemForm) (values : List Value) (d : Data) (r : Bool) → r ≡ list_all (λ v. is_item_typed item (view v)) values
+pub array_typed : (form : Form) (low high : ℕ) (item : ItemForm) (values : List Value) (d : Data) (r : Bool)
+    → r ≡ list_all (λ v. is_item_typed item (view v)) values
     → map view values ≡ elements d → true ≡ is_some (as_array d) → form ≡ Array low high item → r ≡ is_typed form d
 array_typed form low high item values d r is same array what =
     is ∙ all_data (is_item_typed item) values

@@ -6,11 +6,13 @@ use Rattle.std.specs.List.{list_all, list_any, starts_with}
 use Rattle.std.specs.Option.{is_some, option_map_or}
 use Rattle.std.specs.Prelude.{nat_eq, Option}
 use Rattle.std.specs.Str.{bytes_eq}
+use Rattle.mx_words.specs.Limits.{most_module_name, most_name}
 use Rattle.toml.specs.Data.{Data, as_str, as_integer, as_bool, as_array, as_table}
 use Rattle.mx_manifest.specs.declared.row.Form.{Form}
 use Rattle.mx_manifest.specs.declared.row.Form.TheVariants.{Integer, Aligned, Choice, Text, Boolean, Entry, Array}
 use Rattle.mx_manifest.specs.declared.row.TextForm.{TextForm}
-use Rattle.mx_manifest.specs.declared.row.TextForm.TheVariants.{Any, Tables, ModuleName, FileName, Permission, ImagePermission, OnFault, InputPermission}
+use Rattle.mx_manifest.specs.declared.row.TextForm.TheVariants.{Any, Tables, ModuleName, FileName, Permission, ImagePermission, OnFault}
+use Rattle.mx_manifest.specs.declared.row.TextForm.TheVariants.{InputPermission}
 use Rattle.mx_manifest.specs.declared.row.ItemForm.{ItemForm}
 use Rattle.mx_manifest.specs.declared.row.ItemForm.TheVariants as each
 use Rattle.mx_manifest.specs.Reads.{elements}
@@ -50,8 +52,8 @@ is_among texts text = list_any (λ t. bytes_eq text t) texts
 abbrev pub is_text : TextForm → List ℕ → Bool
 is_text Any text = true
 is_text Tables text = is_among (codes "segments" ∷ codes "multilevel" ∷ codes "packed" ∷ []) text
-is_text ModuleName text = is_within 1 32 (length text) && list_all is_name_byte text
-is_text FileName text = is_within 1 255 (length text) && not (starts_with nat_eq text (codes "-"))
+is_text ModuleName text = is_within 1 most_module_name (length text) && list_all is_name_byte text
+is_text FileName text = is_within 1 most_name (length text) && not (starts_with nat_eq text (codes "-"))
 is_text Permission text = is_among (codes "r" ∷ codes "rw" ∷ codes "rx" ∷ []) text
 is_text ImagePermission text = is_among (codes "rw" ∷ codes "rx" ∷ []) text
 is_text OnFault text = is_among (codes "return" ∷ codes "kill" ∷ []) text
@@ -67,7 +69,7 @@ is_entry_typed value = is_some (as_str value) || is_some (as_integer value)
 
 abbrev pub is_entry : Data → Bool
 is_entry value =
-    passes (λ text. is_within 1 255 (length text)) (as_str value)
+    passes (λ text. is_within 1 most_name (length text)) (as_str value)
     || passes is_address (as_integer value)
 
 -- the type of an element

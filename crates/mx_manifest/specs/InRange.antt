@@ -9,7 +9,8 @@ use Rattle.mx_manifest.specs.declared.parts.HartPlan.{HartPlan}
 use Rattle.mx_manifest.specs.declared.parts.InputPlan.{InputPlan}
 use Rattle.mx_manifest.specs.declared.parts.ModulePlan.{ModulePlan}
 use Rattle.mx_words.specs.declared.perm.Perm.TheVariants as perms
-use Rattle.mx_words.specs.Limits.{most_modules, most_harts, most_gates, IsBuffer}
+use Rattle.mx_words.specs.Limits.{most_modules, most_harts, most_gates, IsBuffer, most_words, least_ram_kib, most_ram_kib, most_upper}
+use Rattle.mx_words.specs.Limits.{most_leaf, most_spill, most_quantum, most_inline_words, most_stack_words, most_module_name, most_name}
 use Rattle.mx_manifest.specs.Forms.{is_name_byte}
 use Rattle.mx_manifest.specs.Plan.{Said}
 
@@ -23,14 +24,14 @@ IsAligned address = (address % 4 ≡ 0) × (address ≤ 4294967295)
 
 -- a module's name, and the name of a file
 abbrev pub IsName : List ℕ → Type 0
-IsName name = IsBetween 1 32 (length name) × (list_all is_name_byte name ≡ true)
+IsName name = IsBetween 1 most_module_name (length name) × (list_all is_name_byte name ≡ true)
 
 abbrev pub IsFileName : List ℕ → Type 0
-IsFileName name = IsBetween 1 255 (length name) × (starts_with nat_eq name (codes "-") ≡ false)
+IsFileName name = IsBetween 1 most_name (length name) × (starts_with nat_eq name (codes "-") ≡ false)
 
 -- a symbol of 1 to 255 bytes, or an address
 abbrev pub IsEntry : EntryPlan → Type 0
-IsEntry (Symbol text) = IsBetween 1 255 (length text)
+IsEntry (Symbol text) = IsBetween 1 most_name (length text)
 IsEntry (Address address) = address ≤ 4294967295
 
 -- a property of each element, with its number from 1
@@ -50,7 +51,7 @@ pub record IsGate (count own : ℕ) (gate : GatePlan) : Type 0 where
 pub record IsInput (plan : InputPlan) : Type 0 where
   pub file : IsFileName plan.file
   pub address : IsAligned plan.address
-  pub words : IsBetween 1 16777216 plan.words
+  pub words : IsBetween 1 most_words plan.words
   pub perm : (plan.perm ≡ perms.Read) ⊎ (plan.perm ≡ perms.ReadWrite)
 
 -- module `own` among `count` modules
@@ -62,14 +63,14 @@ pub record IsModule (count own : ℕ) (plan : ModulePlan) : Type 0 where
   pub words_or_image : is_some plan.words ≡ not (is_some plan.image)
   pub at : IfSome plan.at IsAligned
   pub perm : IfSome plan.perm (λ perm. perm ≢ perms.None)
-  pub words : IfSome plan.words (λ words. IsBetween 1 65536 (length words))
+  pub words : IfSome plan.words (λ words. IsBetween 1 most_inline_words (length words))
   pub wx : IfSome plan.wx (λ perm. (perm ≡ perms.ReadWrite) ⊎ (perm ≡ perms.ExecuteRead))
   pub wx_of_image : is_some plan.wx ≡ true → is_some plan.image ≡ true
   pub heap : IfSome plan.heap IsAligned
-  pub heap_words : IfSome plan.heap_words (IsBetween 1 16777216)
+  pub heap_words : IfSome plan.heap_words (IsBetween 1 most_words)
   pub heap_whole : is_some plan.heap ≡ is_some plan.heap_words
   pub stack : IfSome plan.stack IsAligned
-  pub stack_words : IfSome plan.stack_words (IsBetween 1 1048576)
+  pub stack_words : IfSome plan.stack_words (IsBetween 1 most_stack_words)
   pub stack_whole : is_some plan.stack ≡ is_some plan.stack_words
   pub gate_count : length plan.gates ≤ most_gates
   pub gates : Each (IsGate count own) plan.gates
@@ -90,13 +91,13 @@ pub record IsHart (count : ℕ) (plan : HartPlan) : Type 0 where
 
 pub record IsInRange (plan : Said) : Type 0 where
   pub version : IsBetween 1 2 plan.version
-  pub ram_kib : IsBetween 64 65536 plan.ram_kib
+  pub ram_kib : IsBetween least_ram_kib most_ram_kib plan.ram_kib
   pub ram_multiple : plan.ram_kib % 4 ≡ 0
-  pub upper : plan.upper ≤ 4096
-  pub leaf : plan.leaf ≤ 262144
-  pub spill : plan.spill ≤ 1048576
+  pub upper : plan.upper ≤ most_upper
+  pub leaf : plan.leaf ≤ most_leaf
+  pub spill : plan.spill ≤ most_spill
   pub lookaside : IsBuffer plan.lookaside
-  pub quantum : IsBetween 1 1000000 plan.quantum
+  pub quantum : IsBetween 1 most_quantum plan.quantum
   pub module_count : IsBetween 1 most_modules (length plan.modules)
   pub hart_count : IsBetween 1 most_harts (length plan.harts)
   pub modules : EachNumbered (IsModule (length plan.modules)) plan.modules

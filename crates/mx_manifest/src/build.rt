@@ -1,16 +1,18 @@
 //! The plan of a manifest without a fault.
 
-ghost use Rattle.std.specs.Prelude.{◌≡◌, ◌≤◌, map, length, option_map, option_copied, unwrap_or, option_and_then, codes, false, IfOk, IfSome};
+ghost use Rattle.std.specs.Prelude.{◌≡◌, ◌≤◌, map, length, option_map, option_copied, unwrap_or, option_and_then};
+ghost use Rattle.std.specs.Prelude.{codes, false, IfOk, IfSome};
 ghost use Rattle.std.specs.Option.{option_map_or};
 ghost use Rattle.std.specs.Str.{bytes_eq};
 ghost use Rattle.toml.specs.Data.{as_bool};
 ghost use Rattle.toml.specs.View.{view};
-ghost use Rattle.mx_words.specs.Limits.{most_modules, most_gates};
+ghost use Rattle.mx_words.specs.Limits.{most_modules, most_gates, most_inline_words};
 ghost use Rattle.mx_manifest.specs.Reads.{value_at, number_of, number_at, text_at, text_of};
 ghost use Rattle.mx_manifest.specs.Faults.{domain_of, version_of, module_names};
 ghost use Rattle.mx_manifest.specs.InRange.{Each, IsInRange};
 ghost use Rattle.mx_manifest.specs.Short.{HasShortLists};
-ghost use Rattle.mx_manifest.specs.Plan.{kind_named, perm_named, input_plan, entry_plan, gate_plan, word_list, module_plan, hart_plan, version_number, plan_of};
+ghost use Rattle.mx_manifest.specs.Plan.{kind_named, perm_named, input_plan, entry_plan, gate_plan, word_list};
+ghost use Rattle.mx_manifest.specs.Plan.{module_plan, hart_plan, version_number, plan_of};
 ghost use Rattle.mx_manifest.specs.Section.{section_view};
 
 use crate::names::{Names, from_values, hart_domain, module_name, text_of};
@@ -100,7 +102,7 @@ fn word(value: &Value) -> u32
 
 fn words(alloc: Global, section: Section) -> Result<Option<Numbers>, NoMemory>
     requires { IfSome (option_map word_list (value_at Key.Words (section_view section)))
-        (λ words. length words ≤ 65536) }
+        (λ words. length words ≤ most_inline_words) }
     ensures { IfOk result
         (λ words. words ≡ option_map word_list (value_at Key.Words (section_view section.entry))) }
 {
@@ -111,7 +113,7 @@ fn words(alloc: Global, section: Section) -> Result<Option<Numbers>, NoMemory>
 }
 
 fn word_list(alloc: Global, values: &[Value]) -> Result<Numbers, NoMemory>
-    requires { length values.now ≤ 65536 }
+    requires { length values.now ≤ most_inline_words }
     ensures { IfOk result
         (λ words. words ≡ map (λ word. unwrap_or (number_of word) 0) (map view values.now)) }
 {
@@ -121,7 +123,7 @@ fn word_list(alloc: Global, values: &[Value]) -> Result<Numbers, NoMemory>
 
 fn domains(alloc: Global, names: &Names, values: &[Value]) -> Result<Numbers, NoMemory>
     requires names { length names.now ≤ most_modules }
-    requires few { length values.now ≤ 65536 }
+    requires few { length values.now ≤ most_inline_words }
     ensures { IfOk result
         (λ domains. domains ≡ map (domain_of names.now) (map text_of (map view values.now))) }
 {
@@ -134,7 +136,7 @@ fn domains(alloc: Global, names: &Names, values: &[Value]) -> Result<Numbers, No
 
 fn gate_plan(alloc: Global, names: &Names, gate: Section) -> Result<GatePlan, NoMemory>
     requires names { length names.now ≤ most_modules }
-    requires few { length (gate_plan names.now (section_view gate)).from ≤ 65536 }
+    requires few { length (gate_plan names.now (section_view gate)).from ≤ most_inline_words }
     ensures { IfOk result (λ plan. plan ≡ gate_plan names.now (section_view gate.entry)) }
 {
     let entry = match gate.value_at(Key::Entry) {
@@ -148,7 +150,7 @@ fn gate_plan(alloc: Global, names: &Names, gate: Section) -> Result<GatePlan, No
 fn gate_plans(alloc: Global, names: &Names, gates: &[Value]) -> Result<GatePlans, NoMemory>
     requires names { length names.now ≤ most_modules }
     requires few { length gates.now ≤ most_gates }
-    requires froms { Each (λ gate. length gate.from ≤ 65536)
+    requires froms { Each (λ gate. length gate.from ≤ most_inline_words)
         (map (gate_plan names.now) (map view gates.now)) }
     ensures { IfOk result (λ plans. plans ≡ map (gate_plan names.now) (map view gates.now)) }
 {

@@ -4,7 +4,9 @@ ghost use Rattle.std.specs.Prelude.{◌≡◌, ◌&&◌, map, length, nat_le};
 ghost use Rattle.std.specs.List.{list_all};
 ghost use Rattle.toml.specs.Data.{as_str, as_integer};
 ghost use Rattle.toml.specs.View.{view};
-ghost use Rattle.mx_manifest.specs.Forms.{is_within, is_integer, is_aligned, is_choice, is_address, is_name_byte, is_text, is_entry_typed, is_entry, is_item_typed, is_item, is_typed, is_ranged};
+ghost use Rattle.mx_manifest.specs.Forms.{is_within, is_integer, is_aligned, is_choice, is_address, is_name_byte};
+ghost use Rattle.mx_manifest.specs.Forms.{is_text, is_entry_typed, is_entry, is_item_typed, is_item, is_typed};
+ghost use Rattle.mx_manifest.specs.Forms.{is_ranged};
 
 use crate::row::{Form, ItemForm, TextForm};
 use crate::section::elements;

@@ -1,13 +1,16 @@
 //! Steps 2 and 3 of the tests: the names of modules, and the names by which gates and harts mean them.
 
-ghost use Rattle.std.specs.Prelude.{◌≡◌, ◌≤◌, ◌++◌, [], ◌∷◌, List, ℕ, map, length, not, if◌then◌else◌, IfOk, IfErr, OnOk, unwrap_or};
+ghost use Rattle.std.specs.Prelude.{◌≡◌, ◌≤◌, ◌++◌, [], ◌∷◌, List, ℕ, map, length, not, if◌then◌else◌, IfOk, IfErr};
+ghost use Rattle.std.specs.Prelude.{OnOk, unwrap_or};
 ghost use Rattle.std.specs.List.{list_all, list_any};
 ghost use Rattle.std.specs.Str.{bytes_eq};
 ghost use Rattle.toml.specs.View.{view};
 ghost use Rattle.mx_words.specs.Limits.{most_modules, most_harts};
 ghost use Rattle.mx_manifest.specs.Judged.{Tells};
 ghost use Rattle.mx_manifest.specs.Reads.{text_at, text_of};
-ghost use Rattle.mx_manifest.specs.Faults.{each_fault, module_name, domain_of, repeat_fault, from_texts, is_other, is_from_others, from_fault, hart_domain, hart_fault, modules, harts, module_names, names_fault};
+ghost use Rattle.mx_manifest.specs.Faults.{each_fault, module_name, domain_of, repeat_fault, from_texts, is_other};
+ghost use Rattle.mx_manifest.specs.Faults.{is_from_others, from_fault, hart_domain, hart_fault, modules, harts};
+ghost use Rattle.mx_manifest.specs.Faults.{module_names, names_fault};
 ghost use Rattle.mx_manifest.specs.Section.{section_view};
 
 use crate::reading::ManifestFault;

@@ -1,6 +1,7 @@
 //! The plan of a machine, as its manifest gives it.
 
 ghost use Rattle.std.specs.Prelude.{◌≡◌, ◌<◌, ◌≤◌, ◌+◌, ◌%◌, length, slice_get};
+ghost use Rattle.mx_words.specs.Limits.{least_ram_kib, most_ram_kib, most_upper, most_leaf, most_spill, most_quantum};
 ghost use Rattle.mx_words.specs.Limits.{most_modules, most_harts, IsBuffer};
 ghost use Rattle.mx_manifest.specs.InRange.{IsBetween, IsModule, IsHart, IsInRange};
 ghost use Rattle.mx_manifest.specs.Plan.{Said};
@@ -49,7 +50,7 @@ impl Plan {
     /// The size of RAM in KiB: 64 to 65536, a multiple of 4.
     pub fn ram_kib(&self) -> u32
         ensures value { result ≡ self.now.ram_kib }
-        ensures range { IsBetween 64 65536 result × (result % 4 ≡ 0) }
+        ensures range { IsBetween least_ram_kib most_ram_kib result × (result % 4 ≡ 0) }
     {
         self.ram_kib
     }
@@ -64,7 +65,7 @@ impl Plan {
     /// The limit of upper frames, at most 4096.
     pub fn upper(&self) -> u32
         ensures value { result ≡ self.now.upper }
-        ensures most { result ≤ 4096 }
+        ensures most { result ≤ most_upper }
     {
         self.upper
     }
@@ -72,7 +73,7 @@ impl Plan {
     /// The limit of leaf frames, at most 262144.
     pub fn leaf(&self) -> u32
         ensures value { result ≡ self.now.leaf }
-        ensures most { result ≤ 262144 }
+        ensures most { result ≤ most_leaf }
     {
         self.leaf
     }
@@ -80,7 +81,7 @@ impl Plan {
     /// The limit of spill words, at most 1048576.
     pub fn spill(&self) -> u32
         ensures value { result ≡ self.now.spill }
-        ensures most { result ≤ 1048576 }
+        ensures most { result ≤ most_spill }
     {
         self.spill
     }
@@ -96,7 +97,7 @@ impl Plan {
     /// The turns that a hart has in a row, 1 to 1000000.
     pub fn quantum(&self) -> u32
         ensures value { result ≡ self.now.quantum }
-        ensures range { IsBetween 1 1000000 result }
+        ensures range { IsBetween 1 most_quantum result }
     {
         self.quantum
     }

@@ -6,7 +6,10 @@ ghost use Rattle.mx_manifest.specs.Rows.{most, row, top_rows, early_rows, late_r
 
 use crate::Key;
 use crate::row::{Asked, Form, ItemForm, Name, Row, TextForm, Version};
-use mx_words::{MOST_GATES, MOST_HARTS, MOST_KEPT, MOST_MODULES};
+use mx_words::{
+    LEAST_RAM_KIB, MOST_GATES, MOST_HARTS, MOST_INLINE_WORDS, MOST_LEAF, MOST_MODULES,
+    MOST_QUANTUM, MOST_RAM_KIB, MOST_SPILL, MOST_STACK_WORDS, MOST_UPPER, MOST_WORDS,
+};
 
 // The limits, as numbers of the table.
 const MODULES: u32 = MOST_MODULES as u32;
@@ -14,8 +17,6 @@ const MODULES: u32 = MOST_MODULES as u32;
 const HARTS: u32 = MOST_HARTS as u32;
 
 const GATES: u32 = MOST_GATES as u32;
-
-const KEPT: u32 = MOST_KEPT as u32;
 
 /// What version 1 allows at most, or version 2.
 fn most(version: Version, one: u32, two: u32) -> u32
@@ -41,10 +42,10 @@ fn row(key: Key, asked: Asked, form: Form) -> Row
 pub(crate) fn top_rows(version: Version) -> [Row; 10]
     ensures { result ≡ top_rows version }
 {
-    let ram = Form::Aligned(64, most(version, 16384, 65536));
-    let upper = Form::Integer(0, most(version, 1024, 4096));
-    let leaf = Form::Integer(0, most(version, 65536, 262144));
-    let spill = Form::Integer(0, most(version, 262144, 1048576));
+    let ram = Form::Aligned(LEAST_RAM_KIB, most(version, 16384, MOST_RAM_KIB));
+    let upper = Form::Integer(0, most(version, 1024, MOST_UPPER));
+    let leaf = Form::Integer(0, most(version, 65536, MOST_LEAF));
+    let spill = Form::Integer(0, most(version, 262144, MOST_SPILL));
     let modules = Form::Array(1, most(version, 15, MODULES), ItemForm::Table);
     [
         row(Key::Version, Asked::Always, Form::Integer(1, 2)),
@@ -53,8 +54,8 @@ pub(crate) fn top_rows(version: Version) -> [Row; 10]
         row(Key::Upper, Asked::Never, upper),
         row(Key::Leaf, Asked::Never, leaf),
         row(Key::Spill, Asked::Never, spill),
-        row(Key::Lookaside, Asked::Never, Form::Choice(8, 32, KEPT)),
-        row(Key::Quantum, Asked::Never, Form::Integer(1, 1000000)),
+        row(Key::Lookaside, Asked::Never, Form::Choice(8, 32, 64)),
+        row(Key::Quantum, Asked::Never, Form::Integer(1, MOST_QUANTUM)),
         row(Key::Module, Asked::Always, modules),
         row(
             Key::Hart,
@@ -70,7 +71,7 @@ pub(crate) fn early_rows(version: Version) -> [Row; 11]
 {
     let inline = Asked::Without(Key::Image);
     let address = Form::Aligned(0, u32::MAX);
-    let heap_words = Form::Integer(1, most(version, 4194304, 16777216));
+    let heap_words = Form::Integer(1, most(version, 4194304, MOST_WORDS));
     [
         row(Key::Name, Asked::Always, Form::Text(TextForm::ModuleName)),
         row(
@@ -80,7 +81,11 @@ pub(crate) fn early_rows(version: Version) -> [Row; 11]
         ),
         row(Key::At, inline, address),
         row(Key::Perm, inline, Form::Text(TextForm::Permission)),
-        row(Key::Words, inline, Form::Array(1, 65536, ItemForm::Word)),
+        row(
+            Key::Words,
+            inline,
+            Form::Array(1, MOST_INLINE_WORDS, ItemForm::Word),
+        ),
         row(Key::Wx, Asked::Never, Form::Text(TextForm::ImagePermission)),
         row(Key::Heap, Asked::With(Key::HeapWords), address),
         row(Key::HeapWords, Asked::With(Key::Heap), heap_words),
@@ -88,7 +93,7 @@ pub(crate) fn early_rows(version: Version) -> [Row; 11]
         row(
             Key::StackWords,
             Asked::With(Key::Stack),
-            Form::Integer(1, 1048576),
+            Form::Integer(1, MOST_STACK_WORDS),
         ),
         row(
             Key::Gates,
@@ -130,7 +135,7 @@ pub(crate) fn late_rows_two() -> [Row; 7]
         row(Key::Seal, Asked::Never, Form::Boolean),
         row(Key::Input, input, Form::Text(TextForm::FileName)),
         row(Key::InputAt, input_at, Form::Aligned(0, u32::MAX)),
-        row(Key::InputWords, input_words, Form::Integer(1, 16777216)),
+        row(Key::InputWords, input_words, Form::Integer(1, MOST_WORDS)),
         row(Key::InputPerm, Asked::Never, permission),
     ]
 }

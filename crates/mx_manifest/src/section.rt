@@ -5,7 +5,8 @@ ghost use Rattle.std.specs.List.{list_all};
 ghost use Rattle.toml.specs.Data.{get, as_table};
 ghost use Rattle.toml.specs.View.{view, table_view};
 ghost use Rattle.mx_manifest.specs.Keys.{key_text};
-ghost use Rattle.mx_manifest.specs.Reads.{value_at, has, names_in, number_of, elements, elements_at, number_at, text_at};
+ghost use Rattle.mx_manifest.specs.Reads.{value_at, has, names_in, number_of, elements, elements_at, number_at};
+ghost use Rattle.mx_manifest.specs.Reads.{text_at};
 ghost use Rattle.mx_manifest.specs.Section.{section_view};
 
 use crate::Key;

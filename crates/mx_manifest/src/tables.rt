@@ -7,7 +7,9 @@ ghost use Rattle.toml.specs.View.{view, table_view};
 ghost use Rattle.mx_words.specs.Limits.{most_modules, most_harts};
 ghost use Rattle.mx_manifest.specs.Keys.{name_text, name_key};
 ghost use Rattle.mx_manifest.specs.Reads.{names_in};
-ghost use Rattle.mx_manifest.specs.Faults.{fault_where, is_asked, value_fault, row_fault, rows_fault, is_listed, unlisted_fault, table_fault, gate_fault, first_of, image_fault, module_fault, placed, each_fault, tables_fault};
+ghost use Rattle.mx_manifest.specs.Faults.{fault_where, is_asked, value_fault, row_fault, rows_fault, is_listed};
+ghost use Rattle.mx_manifest.specs.Faults.{unlisted_fault, table_fault, gate_fault, first_of, image_fault};
+ghost use Rattle.mx_manifest.specs.Faults.{module_fault, placed, each_fault, tables_fault};
 ghost use Rattle.mx_manifest.specs.Rows.{top_rows, early_rows, late_rows, gate_rows, hart_rows};
 ghost use Rattle.mx_manifest.specs.Section.{section_view};
 

@@ -1,6 +1,7 @@
 //! Texts and lists of numbers in a plan.
 
 ghost use Rattle.std.specs.Prelude.{◌≡◌, ◌<◌, ◌≤◌, List, ℕ, length, slice_get, string_bytes, IfOk};
+ghost use Rattle.mx_words.specs.Limits.{most_inline_words};
 
 use mx_words::NoMemory;
 use std::alloc::Global;
@@ -46,12 +47,12 @@ impl Model for Numbers {
 
     ghost view = { λ n. n.items.items };
 
-    ghost invariant = { λ n. length n.items.items ≤ 65536 };
+    ghost invariant = { λ n. length n.items.items ≤ most_inline_words };
 }
 
 impl Numbers {
     pub(crate) fn new(items: Vec<u32>) -> Numbers
-        requires { length items.items ≤ 65536 }
+        requires { length items.items ≤ most_inline_words }
         ensures { result ≡ items.items }
     {
         Numbers { items }

@@ -1,5 +1,6 @@
 -- A number put in place byte by byte is its little-endian bytes put in place at once.
-use Rattle.std.proofs.Common.{◌≡◌, ℕ, zero, suc, ◌+◌, ◌-◌, ◌/◌, ◌%◌, ◌≤◌, List, [], ◌∷◌, ◌++◌, length, take, drop, set, refl, sym, ◌∙◌, arith, bit_and, add-zero, append_assoc, length-set}
+use Rattle.std.proofs.Common.{◌≡◌, ℕ, zero, suc, ◌+◌, ◌-◌, ◌/◌, ◌%◌, ◌≤◌, List, [], ◌∷◌, ◌++◌, length, take, drop, set, refl, sym, ◌∙◌}
+use Rattle.std.proofs.Common.{arith, bit_and, add-zero, append_assoc, length-set}
 use Rattle.std.proofs.lemmas.List.{take-append-drop, take_more_set, drop-set-lt}
 use Rattle.std.proofs.lemmas.Nat.{and_mask}
 use Rattle.std.specs.Int.{to_le_bytes, w16, w32}
@@ -11,7 +12,8 @@ abbrev low_bytes : ℕ → ℕ → List ℕ
 low_bytes zero n = []
 low_bytes (suc size) n = n % 256 ∷ low_bytes size (n / 256)
 
-put_at-low_bytes : (size : ℕ) (xs : List ℕ) (k n : ℕ) → k + size ≤ length xs → put_at xs k size n ≡ take k xs ++ (low_bytes size n ++ drop (k + size) xs)
+put_at-low_bytes : (size : ℕ) (xs : List ℕ) (k n : ℕ) → k + size ≤ length xs
+    → put_at xs k size n ≡ take k xs ++ (low_bytes size n ++ drop (k + size) xs)
 unfolding put_at
 put_at-low_bytes zero xs k n h = rw add-zero (sym (take-append-drop k xs))
 put_at-low_bytes (suc size) xs k n h =
@@ -24,7 +26,8 @@ put_at-low_bytes (suc size) xs k n h =
     rest ∙ rw (front, back, place, append_assoc) refl
 
 -- the bytes that a copy of two or four bytes puts in place
-pub put_mid-half : (xs ys : List ℕ) (k n : ℕ) → k + 2 ≤ length xs → ys ≡ to_le_bytes w16 (bit_and n 0xFFFF) → put_mid k (k + 2 - k) xs ys ≡ put_at xs k 2 n
+pub put_mid-half : (xs ys : List ℕ) (k n : ℕ) → k + 2 ≤ length xs → ys ≡ to_le_bytes w16 (bit_and n 0xFFFF)
+    → put_mid k (k + 2 - k) xs ys ≡ put_at xs k 2 n
 put_mid-half xs ys k n h e =
     let low : n % 65536 % 256 ≡ n % 256 = omega arith in
     let high : n % 65536 / 256 % 256 ≡ n / 256 % 256 = omega arith in

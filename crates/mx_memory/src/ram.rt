@@ -1,5 +1,6 @@
 //! RAM as a list of bytes.
-ghost use Rattle.std.specs.Prelude.{◌≡◌, ℕ, ◌+◌, ◌*◌, ◌%◌, ◌^◌, ◌<◌, ◌≤◌, List, length, replicate, slice_index, slice_range, IfOk};
+ghost use Rattle.std.specs.Prelude.{◌≡◌, ℕ, ◌+◌, ◌*◌, ◌%◌, ◌^◌, ◌<◌, ◌≤◌, List, length, replicate, slice_index};
+ghost use Rattle.std.specs.Prelude.{slice_range, IfOk};
 ghost use Rattle.mx_words.specs.Bytes.{IsSize, number_at, put_at, cleared_at};
 ghost use Rattle.mx_words.specs.Ranges.{most_words};
 ghost use Rattle.mx_memory.specs.Places.{place_of, IsInside};

@@ -20,17 +20,21 @@ use Rattle.mx_mill.specs.Words.{base, module_count, words_by}
 use Rattle.mx_mill.proofs.NeedLaws.{few-within, lies_in, single}
 
 -- a plan without a fault whose maps fit boots
-boots : (plan : Said) (images inputs : List (List ℕ)) → first_fault plan images ≡ None → within (map_need (boot_state plan images inputs)) (limit_of plan) ≡ true
+boots : (plan : Said) (images inputs : List (List ℕ)) → first_fault plan images ≡ None
+    → within (map_need (boot_state plan images inputs)) (limit_of plan) ≡ true
     → boot_of plan images inputs ≡ Ok (boot_state plan images inputs)
 unfolding boot_of
 boots plan images inputs clear fits = rw (clear, fits) refl
 
 -- packed tables whose maps have one grant each
-singles_fit : (plan : Said) (images inputs : List (List ℕ)) (gs : List Grant) → plan.tables ≡ K.Packed → list_map (grants_of (length plan.harts)) (homes plan images) ≡ list_map single gs
-    → ram_words plan ≤ 16777216 → list_all (lies_in (ram_words plan)) gs ≡ true → 3 * length gs ≤ plan.upper → 2 * length gs ≤ plan.leaf → 2 * length gs ≤ plan.spill
+singles_fit : (plan : Said) (images inputs : List (List ℕ)) (gs : List Grant) → plan.tables ≡ K.Packed
+    → list_map (grants_of (length plan.harts)) (homes plan images) ≡ list_map single gs
+    → ram_words plan ≤ 16777216 → list_all (lies_in (ram_words plan)) gs ≡ true → 3 * length gs ≤ plan.upper → 2 * length gs ≤ plan.leaf
+    → 2 * length gs ≤ plan.spill
     → within (map_need (boot_state plan images inputs)) (limit_of plan) ≡ true
 singles_fit plan images inputs gs packed singles few inside upper leaf spill =
-    ap (λ (kind : Kind). within (need kind (list_map (λ grants. map grants (ram_words plan)) (list_map (grants_of (length plan.harts)) (homes plan images)))) (limit_of plan)) packed
+    ap (λ (kind : Kind). within (need kind (list_map (λ grants. map grants (ram_words plan))
+    (list_map (grants_of (length plan.harts)) (homes plan images)))) (limit_of plan)) packed
     ∙ ap (λ (grants : List (List Grant)). within (need K.Packed (list_map (λ gs. map gs (ram_words plan)) grants)) (limit_of plan)) singles
     ∙ few-within (ram_words plan) gs (limit_of plan) few inside upper leaf spill
 
@@ -42,7 +46,8 @@ plan_clear : (n : ℕ → Draws) → first_fault (plan_with (words_by n)) no_ima
 unfolding first_fault
 plan_clear n = refl
 
-plan_singles : (n : ℕ → Draws) → let plan = plan_with (words_by n) in list_map (grants_of (length plan.harts)) (homes plan no_images) ≡ list_map single grants
+plan_singles : (n : ℕ → Draws) → let plan = plan_with (words_by n) in
+    list_map (grants_of (length plan.harts)) (homes plan no_images) ≡ list_map single grants
 plan_singles n = refl
 
 mill_clear : (k : ℕ) → first_fault (mill_plan k) no_images ≡ None
@@ -80,4 +85,5 @@ mill_spill k = omega arith
 pub mill_boots : (k : ℕ) → boot_of (mill_plan k) no_images [] ≡ Ok (boot_state (mill_plan k) no_images [])
 mill_boots k =
     boots (mill_plan k) no_images [] (mill_clear k)
-    (singles_fit (mill_plan k) no_images [] grants (mill_packed k) (mill_singles k) (mill_words_few k) (mill_inside k) (mill_upper k) (mill_leaf k) (mill_spill k))
+    (singles_fit (mill_plan k) no_images [] grants (mill_packed k) (mill_singles k) (mill_words_few k) (mill_inside k) (mill_upper k)
+    (mill_leaf k) (mill_spill k))

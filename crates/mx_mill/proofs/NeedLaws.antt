@@ -1,6 +1,7 @@
 -- The need of maps with few grants. A map without a grant needs a root table alone; each grant breaks at most two regions and two
 -- pages more, and crowds at most two lines more.
-use Rattle.std.proofs.Common.{◌≡◌, ℕ, zero, suc, ◌+◌, ◌*◌, ◌/◌, ◌<◌, ◌≤◌, ◌⊎◌, inl, inr, Bool, true, nat_le, not, List, [], ◌∷◌, ◌++◌, length, replicate, sum_by, refl, sym, ap, ◌∙◌, arith, le-leb, length-take}
+use Rattle.std.proofs.Common.{◌≡◌, ℕ, zero, suc, ◌+◌, ◌*◌, ◌/◌, ◌<◌, ◌≤◌, ◌⊎◌, inl, inr, Bool, true, nat_le, not, List, [], ◌∷◌, ◌++◌}
+use Rattle.std.proofs.Common.{length, replicate, sum_by, refl, sym, ap, ◌∙◌, arith, le-leb, length-take}
 use Rattle.std.proofs.Common.{map as list_map}
 use Rattle.std.specs.List.{list_all}
 use Rattle.std.proofs.lemmas.Bool.{and_parts, cases_lt, le-ltb, leb-true}
@@ -32,7 +33,8 @@ none-at words i = by (cases_lt i words)
     by (inl h) = map-at [] words i P.None h
     by (inr h) = get_or_past (map [] words) i P.None (omega (arith, length-map_of [] words))
 
-none-broken : (size part k words : ℕ) → size / 8 ≡ part → size ≡ 8 * part → 0 < part → words ≤ k * size → broken_blocks size (map [] words) ≡ 0
+none-broken : (size part k words : ℕ) → size / 8 ≡ part → size ≡ 8 * part → 0 < part → words ≤ k * size
+    → broken_blocks size (map [] words) ≡ 0
 none-broken size part k words is eight some within =
     let m : List Perm = map [] words in
     broken_blocks-count size m k (omega arith) (omega (arith, length-map_of [] words))
@@ -52,7 +54,15 @@ none-runs xs none = by (length xs) refl
         let rest : count_below n (λ i. is_start xs (i + 1)) ≡ 0 =
         count_below_none n (λ i. is_start xs (i + 1))
         (λ i below. is_start-behind xs i ∙ ap not (same_from (perm_at xs i) (perm_at xs (i + 1)) (none i ∙ sym (none (i + 1))))) in
-        omega (arith, runs-count xs, ap (λ k. count_below k (is_start xs)) long, count_below_first n (is_start xs), rest, bit-le (is_start xs 0))
+        omega (
+          arith,
+          runs-count xs,
+          ap (λ k. count_below k (is_start xs)) long,
+          count_below_first n (is_start xs),
+          rest,
+          bit-le
+              (is_start xs 0),
+        )
 
 -- nor does such a line with the words outside RAM
 replicate-none : (n j : ℕ) → perm_at (replicate n P.None) j ≡ P.None
@@ -70,7 +80,8 @@ none-block words b i = by (cases_lt i line_words)
   where
     by : (i < line_words) ⊎ (line_words ≤ i) → perm_at (block_of line_words (map [] words) b) i ≡ P.None
     by (inl h) = block_of-at line_words (map [] words) b i h ∙ none-at words (b * line_words + i)
-    by (inr h) = get_or_past (block_of line_words (map [] words) b) i P.None (omega (arith, length-take line_words (drop (b * line_words) (map [] words))))
+    by (inr h) = get_or_past (block_of line_words (map [] words) b) i P.None
+        (omega (arith, length-take line_words (drop (b * line_words) (map [] words))))
 
 none-crowded : (k words : ℕ) → words ≤ k * line_words → crowded_lines (map [] words) ≡ 0
 none-crowded k words within =
@@ -94,10 +105,13 @@ module _ (words : ℕ) (g : Grant) (few : words ≤ 16777216) (inside : g.first 
   in_map : g.first + g.count ≤ length (map [] words)
   in_map = omega (arith, length-map_of [] words)
 
-  one-broken : (size part k : ℕ) → size / 8 ≡ part → size ≡ 8 * part → 0 < part → words ≤ k * size → broken_blocks size (map (single g) words) ≤ 2
+  one-broken : (size part k : ℕ) → size / 8 ≡ part → size ≡ 8 * part → 0 < part → words ≤ k * size
+      → broken_blocks size (map (single g) words) ≤ 2
   one-broken size part k is eight some within =
-      let laid_is : broken_blocks size (map (single g) words) ≡ broken_blocks size (laid g (map [] words)) = ap (broken_blocks size) (map-append [] g words) in
-      let more = broken_blocks-after (map [] words) g.first g.count g.value in_map size part k is eight some (omega (arith, length-map_of [] words)) in
+      let laid_is : broken_blocks size (map (single g) words) ≡ broken_blocks size (laid g (map [] words)) =
+      ap (broken_blocks size) (map-append [] g words) in
+      let more = broken_blocks-after (map [] words) g.first g.count g.value in_map size part k is eight some
+      (omega (arith, length-map_of [] words)) in
       omega (arith, laid_is, more, none-broken size part k words is eight some within)
 
   pub one-upper : upper_frames (map (single g) words) ≤ 3
@@ -108,7 +122,8 @@ module _ (words : ℕ) (g : Grant) (few : words ≤ 16777216) (inside : g.first 
 
   pub one-spill : crowded_lines (map (single g) words) ≤ 2
   one-spill =
-      let laid_is : crowded_lines (map (single g) words) ≡ crowded_lines (laid g (map [] words)) = ap crowded_lines (map-append [] g words) in
+      let laid_is : crowded_lines (map (single g) words) ≡ crowded_lines (laid g (map [] words)) =
+      ap crowded_lines (map-append [] g words) in
       let more = crowded_lines-after (map [] words) g.first g.count g.value in_map 1048576 (omega (arith, length-map_of [] words)) in
       omega (arith, laid_is, more, none-crowded 1048576 words (omega arith))
 
@@ -116,7 +131,8 @@ module _ (words : ℕ) (g : Grant) (few : words ≤ 16777216) (inside : g.first 
 abbrev pub maps_of : ℕ → List Grant → List (List Perm)
 maps_of words gs = list_map (λ grants. map grants words) (list_map single gs)
 
-sum-few : (words n : ℕ) (f : List Perm → ℕ) → ((g : Grant) → g.first + g.count ≤ words → f (map (single g) words) ≤ n) → (gs : List Grant) → list_all (lies_in words) gs ≡ true
+sum-few : (words n : ℕ) (f : List Perm → ℕ) → ((g : Grant) → g.first + g.count ≤ words → f (map (single g) words) ≤ n) → (gs : List Grant)
+    → list_all (lies_in words) gs ≡ true
     → sum_by f (maps_of words gs) ≤ n * length gs
 sum-few words n f each [] all = omega arith
 sum-few words n f each (g ∷ gs) all =
@@ -126,11 +142,18 @@ sum-few words n f each (g ∷ gs) all =
     omega (arith, here, rest, sum_by-cons f (map (single g) words) (maps_of words gs))
 
 -- what they need
-pub few-within : (words : ℕ) (gs : List Grant) (limit : Need) → words ≤ 16777216 → list_all (lies_in words) gs ≡ true → 3 * length gs ≤ limit.upper → 2 * length gs ≤ limit.leaf → 2 * length gs ≤ limit.spill
+pub few-within : (words : ℕ) (gs : List Grant) (limit : Need) → words ≤ 16777216 → list_all (lies_in words) gs ≡ true
+    → 3 * length gs ≤ limit.upper → 2 * length gs ≤ limit.leaf → 2 * length gs ≤ limit.spill
     → within (need K.Packed (maps_of words gs)) limit ≡ true
 few-within words gs limit few all upper leaf spill =
     let maps : List (List Perm) = maps_of words gs in
     let u : sum_by upper_frames maps ≤ 3 * length gs = sum-few words 3 upper_frames (λ g inside. one-upper words g few inside) gs all in
-    let l : sum_by (broken_blocks page_words) maps ≤ 2 * length gs = sum-few words 2 (broken_blocks page_words) (λ g inside. one-leaf words g few inside) gs all in
+    let l : sum_by (broken_blocks page_words) maps ≤ 2 * length gs =
+    sum-few words 2 (broken_blocks page_words) (λ g inside. one-leaf words g few inside) gs all in
     let s : sum_by crowded_lines maps ≤ 2 * length gs = sum-few words 2 crowded_lines (λ g inside. one-spill words g few inside) gs all in
-    rw (le-leb (sum_by upper_frames maps) limit.upper (omega arith), le-leb (sum_by (broken_blocks page_words) maps) limit.leaf (omega arith), le-leb (sum_by crowded_lines maps) limit.spill (omega arith)) refl
+    rw (
+      le-leb (sum_by upper_frames maps) limit.upper (omega arith),
+      le-leb (sum_by (broken_blocks page_words) maps) limit.leaf
+          (omega arith),
+      le-leb (sum_by crowded_lines maps) limit.spill (omega arith),
+    ) refl

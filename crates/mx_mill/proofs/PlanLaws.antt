@@ -16,12 +16,14 @@ plan_reads : (f : ℕ → List ℕ) → plan_of (table (table_with f)) ≡ plan_
 unfolding digits
 plan_reads f = refl
 
-modules_agree : (f g : ℕ → List ℕ) → ((i : ℕ) → f i ≡ g i) → (is : List ℕ) → map (λ i. module_of i (f i)) is ≡ map (λ i. module_of i (g i)) is
+modules_agree : (f g : ℕ → List ℕ) → ((i : ℕ) → f i ≡ g i) → (is : List ℕ)
+    → map (λ i. module_of i (f i)) is ≡ map (λ i. module_of i (g i)) is
 modules_agree f g same [] = refl
 modules_agree f g same (i ∷ is) = rw (same i, modules_agree f g same is) refl
 
 plans_agree : (f g : ℕ → List ℕ) → ((i : ℕ) → f i ≡ g i) → plan_with f ≡ plan_with g
-plans_agree f g same = ap (λ (ms : List ModulePlan). record (plan_with g) { modules = ms }) (modules_agree f g same (range_with_len 1 module_count))
+plans_agree f g same = ap (λ (ms : List ModulePlan). record (plan_with g) { modules = ms })
+    (modules_agree f g same (range_with_len 1 module_count))
 
 pub plan_is : (k : ℕ) → plan_of (table (mill_table k)) ≡ mill_plan k
 unfolding mill_table mill_plan

@@ -30,10 +30,12 @@ pub enum MillFault {
     NoMemory,
 }
 
-/// Boots the manifest for a number, makes 200000 turns of it, and puts four lines on the report: how many turns were made, what they
+/// Boots the manifest for a number, makes 200000 turns of it, and puts four lines on the report: how many turns were
+/// made, what they
 /// would have told, the counts of all harts, and what the tables take (docs/COMMANDS.md, "The mill").
 ///
-/// The text is that of the abstract run for this number, and leaves in one write where the sink takes that at once. Memory can be
+/// The text is that of the abstract run for this number, and leaves in one write where the sink takes that at once.
+/// Memory can be
 /// wanted before the first turn alone.
 pub fn mill<R: Sink>(alloc: Global, k: u32, report: &mut R) -> Result<(), MillFault>
     ensures { Tells (mill_text k) (R.state report.old) (R.state report.new) result }

@@ -1,4 +1,5 @@
-//! The command `mill`: the manifest that it makes for a number, the run of it that is counted and not told, and the four lines
+//! The command `mill`: the manifest that it makes for a number, the run of it that is counted and not told, and the
+//! four lines
 //! that tell what was counted.
 #![tactic(auto)]
 

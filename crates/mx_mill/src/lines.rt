@@ -5,7 +5,8 @@ ghost use Rattle.mx_io.specs.Sink.{Puts};
 ghost use Rattle.mx_any.specs.Machines.{meaning};
 ghost use Rattle.mx_report.specs.Lines.{end_name};
 ghost use Rattle.mx_tail.specs.Tail.{Passes};
-ghost use Rattle.mx_mill.specs.Lines.{count_text, mill_line, mill_lines, sums_line, tally_line, total, totals_line, used_line};
+ghost use Rattle.mx_mill.specs.Lines.{count_text, mill_line, mill_lines, sums_line, tally_line, total, totals_line};
+ghost use Rattle.mx_mill.specs.Lines.{used_line};
 
 use itoa::Buffer;
 use mx_any::AnyMachine;

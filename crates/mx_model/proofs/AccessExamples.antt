@@ -38,7 +38,8 @@ done = small ((0, 115) ∷ (1, 0x00128293) ∷ (2, 0x00100073) ∷ [])
     []
     (hart_of 1 0x80000000 (regs_with ((10, 0x80000000) ∷ (11, 4) ∷ (17, 4) ∷ [])) [] Running ∷ []) 8
 
-dropped-as-done : (by (0 ∷ 0 ∷ []) done).core.caches ≡ (cache ((0, span_of 0 4 P.ExecuteRead) ∷ []) ((1, span_of 0 4 P.ExecuteRead) ∷ []) 0 0 2) ∷ []
+dropped-as-done : (by (0 ∷ 0 ∷ []) done).core.caches ≡ (cache ((0, span_of 0 4 P.ExecuteRead) ∷ []) ((1, span_of 0 4 P.ExecuteRead) ∷ []) 0
+    0 2) ∷ []
 unfolding decoded effect holds imm_result reg_result loaded number_at put_at cleared_at imm_i imm_s imm_b imm_u imm_j extended
 dropped-as-done = refl
 
@@ -82,17 +83,21 @@ nothing-dropped-by-a-transfer-harts = refl
 abbrev writing : State
 writing = small ((0, 115) ∷ (1, 0x00128293) ∷ (2, 0x00100073) ∷ [])
     (no_module ∷ no_module ∷ [])
-    ((grant 0 4 P.ExecuteRead ∷ grant 40 1 P.Read ∷ grant 41 1 P.ReadWrite ∷ grant 43 1 P.Read ∷ grant 44 4 P.ReadWrite ∷ []) ∷ (grant 40 8 P.ExecuteRead ∷ []) ∷ [])
+    ((grant 0 4 P.ExecuteRead ∷ grant 40 1 P.Read ∷ grant 41 1 P.ReadWrite ∷ grant 43 1 P.Read ∷ grant 44 4 P.ReadWrite ∷ [])
+    ∷ (grant 40 8 P.ExecuteRead ∷ []) ∷ [])
     (give 40 8 1 ∷ [])
     []
     (hart_of 1 0x80000000 (regs_with ((10, 0x800000A2) ∷ (11, 14) ∷ (17, 2) ∷ [])) [] Running ∷ []) 8
 
 write-denied-caches : (by (0 ∷ []) writing).core.caches
-    ≡ (cache ((0, span_of 0 4 P.ExecuteRead) ∷ (10, span_of 42 1 P.None) ∷ []) ((1, span_of 42 1 P.None) ∷ (1, span_of 41 1 P.ReadWrite) ∷ (1, span_of 40 1 P.Read) ∷ (1, span_of 0 4 P.ExecuteRead) ∷ []) 0 0 4) ∷ []
+    ≡ (cache ((0, span_of 0 4 P.ExecuteRead) ∷ (10, span_of 42 1 P.None) ∷ [])
+    ((1, span_of 42 1 P.None) ∷ (1, span_of 41 1 P.ReadWrite) ∷ (1, span_of 40 1 P.Read) ∷ (1, span_of 0 4 P.ExecuteRead) ∷ []) 0 0 4)
+    ∷ []
 unfolding decoded effect holds imm_result reg_result loaded number_at put_at cleared_at imm_i imm_s imm_b imm_u imm_j extended
 write-denied-caches = refl
 
-write-denied-harts : (by (0 ∷ []) writing).core.harts ≡ hart_of 1 0x80000004 (regs_with ((10, 0xFFFFFFF4) ∷ (11, 14) ∷ (17, 2) ∷ [])) [] Running ∷ []
+write-denied-harts : (by (0 ∷ []) writing).core.harts ≡ hart_of 1 0x80000004 (regs_with ((10, 0xFFFFFFF4) ∷ (11, 14) ∷ (17, 2) ∷ [])) []
+    Running ∷ []
 unfolding decoded effect holds imm_result reg_result loaded number_at put_at cleared_at imm_i imm_s imm_b imm_u imm_j extended
 write-denied-harts = refl
 
@@ -103,13 +108,15 @@ write-denied-console = refl
 abbrev telling : State
 telling = small ((0, 115) ∷ (40, 0x44332211) ∷ (41, 0x88776655) ∷ [])
     (no_module ∷ no_module ∷ [])
-    ((grant 0 4 P.ExecuteRead ∷ grant 40 1 P.Read ∷ grant 41 1 P.ReadWrite ∷ grant 43 1 P.Read ∷ grant 44 4 P.ReadWrite ∷ []) ∷ (grant 40 8 P.ExecuteRead ∷ []) ∷ [])
+    ((grant 0 4 P.ExecuteRead ∷ grant 40 1 P.Read ∷ grant 41 1 P.ReadWrite ∷ grant 43 1 P.Read ∷ grant 44 4 P.ReadWrite ∷ [])
+    ∷ (grant 40 8 P.ExecuteRead ∷ []) ∷ [])
     (give 40 8 1 ∷ [])
     []
     (hart_of 1 0x80000000 (regs_with ((10, 0x800000A3) ∷ (11, 3) ∷ (17, 2) ∷ [])) [] Running ∷ []) 8
 
 write-allowed-caches : (by (0 ∷ []) telling).core.caches
-    ≡ (cache ((0, span_of 0 4 P.ExecuteRead) ∷ (10, span_of 41 1 P.ReadWrite) ∷ []) ((1, span_of 41 1 P.ReadWrite) ∷ (1, span_of 40 1 P.Read) ∷ (1, span_of 0 4 P.ExecuteRead) ∷ []) 0 0 3) ∷ []
+    ≡ (cache ((0, span_of 0 4 P.ExecuteRead) ∷ (10, span_of 41 1 P.ReadWrite) ∷ [])
+    ((1, span_of 41 1 P.ReadWrite) ∷ (1, span_of 40 1 P.Read) ∷ (1, span_of 0 4 P.ExecuteRead) ∷ []) 0 0 3) ∷ []
 unfolding decoded effect holds imm_result reg_result loaded number_at put_at cleared_at imm_i imm_s imm_b imm_u imm_j extended
 write-allowed-caches = refl
 
@@ -129,13 +136,15 @@ console-goes-on = refl
 abbrev exchanging : State
 exchanging = small ((0, 115) ∷ (44, 9) ∷ [])
     (no_module ∷ no_module ∷ [])
-    ((grant 0 4 P.ExecuteRead ∷ grant 40 1 P.Read ∷ grant 41 1 P.ReadWrite ∷ grant 43 1 P.Read ∷ grant 44 4 P.ReadWrite ∷ []) ∷ (grant 40 8 P.ExecuteRead ∷ []) ∷ [])
+    ((grant 0 4 P.ExecuteRead ∷ grant 40 1 P.Read ∷ grant 41 1 P.ReadWrite ∷ grant 43 1 P.Read ∷ grant 44 4 P.ReadWrite ∷ [])
+    ∷ (grant 40 8 P.ExecuteRead ∷ []) ∷ [])
     (give 40 8 1 ∷ [])
     []
     (hart_of 1 0x80000000 (regs_with ((10, 0x800000B0) ∷ (11, 7) ∷ (17, 13) ∷ [])) [] Running ∷ []) 8
 
 exchanged-caches : (by (0 ∷ []) exchanging).core.caches
-    ≡ (cache ((0, span_of 0 4 P.ExecuteRead) ∷ (10, span_of 44 4 P.ReadWrite) ∷ []) ((1, span_of 44 4 P.ReadWrite) ∷ (1, span_of 0 4 P.ExecuteRead) ∷ []) 0 0 2) ∷ []
+    ≡ (cache ((0, span_of 0 4 P.ExecuteRead) ∷ (10, span_of 44 4 P.ReadWrite) ∷ [])
+    ((1, span_of 44 4 P.ReadWrite) ∷ (1, span_of 0 4 P.ExecuteRead) ∷ []) 0 0 2) ∷ []
 unfolding decoded effect holds imm_result reg_result loaded number_at put_at cleared_at imm_i imm_s imm_b imm_u imm_j extended
 exchanged-caches = refl
 
@@ -150,13 +159,15 @@ exchanged-ram = refl
 abbrev not_exchanging : State
 not_exchanging = small ((0, 115) ∷ (1, 0x00128293) ∷ (2, 0x00100073) ∷ [])
     (no_module ∷ no_module ∷ [])
-    ((grant 0 4 P.ExecuteRead ∷ grant 40 1 P.Read ∷ grant 41 1 P.ReadWrite ∷ grant 43 1 P.Read ∷ grant 44 4 P.ReadWrite ∷ []) ∷ (grant 40 8 P.ExecuteRead ∷ []) ∷ [])
+    ((grant 0 4 P.ExecuteRead ∷ grant 40 1 P.Read ∷ grant 41 1 P.ReadWrite ∷ grant 43 1 P.Read ∷ grant 44 4 P.ReadWrite ∷ [])
+    ∷ (grant 40 8 P.ExecuteRead ∷ []) ∷ [])
     (give 40 8 1 ∷ [])
     []
     (hart_of 1 0x80000000 (regs_with ((10, 0x800000A0) ∷ (11, 7) ∷ (17, 13) ∷ [])) [] Running ∷ []) 8
 
 exchange-denied-caches : (by (0 ∷ []) not_exchanging).core.caches
-    ≡ (cache ((0, span_of 0 4 P.ExecuteRead) ∷ (10, span_of 40 1 P.Read) ∷ []) ((1, span_of 40 1 P.Read) ∷ (1, span_of 0 4 P.ExecuteRead) ∷ []) 0 0 2) ∷ []
+    ≡ (cache ((0, span_of 0 4 P.ExecuteRead) ∷ (10, span_of 40 1 P.Read) ∷ [])
+    ((1, span_of 40 1 P.Read) ∷ (1, span_of 0 4 P.ExecuteRead) ∷ []) 0 0 2) ∷ []
 unfolding decoded effect holds imm_result reg_result loaded number_at put_at cleared_at imm_i imm_s imm_b imm_u imm_j extended
 exchange-denied-caches = refl
 
@@ -168,7 +179,8 @@ exchange-denied-harts = refl
 abbrev no_exchange : State
 no_exchange = small ((0, 115) ∷ (1, 0x00128293) ∷ (2, 0x00100073) ∷ [])
     (no_module ∷ no_module ∷ [])
-    ((grant 0 4 P.ExecuteRead ∷ grant 40 1 P.Read ∷ grant 41 1 P.ReadWrite ∷ grant 43 1 P.Read ∷ grant 44 4 P.ReadWrite ∷ []) ∷ (grant 40 8 P.ExecuteRead ∷ []) ∷ [])
+    ((grant 0 4 P.ExecuteRead ∷ grant 40 1 P.Read ∷ grant 41 1 P.ReadWrite ∷ grant 43 1 P.Read ∷ grant 44 4 P.ReadWrite ∷ [])
+    ∷ (grant 40 8 P.ExecuteRead ∷ []) ∷ [])
     (give 40 8 1 ∷ [])
     []
     (hart_of 1 0x80000000 (regs_with ((10, 0x800000B2) ∷ (11, 7) ∷ (17, 13) ∷ [])) [] Running ∷ []) 8
@@ -187,7 +199,8 @@ exchange-of-no-word-harts = refl
 abbrev asking : State
 asking = small ((0, 115) ∷ (1, 0x00128293) ∷ (2, 0x00100073) ∷ [])
     (no_module ∷ no_module ∷ [])
-    ((grant 0 4 P.ExecuteRead ∷ grant 40 1 P.Read ∷ grant 41 1 P.ReadWrite ∷ grant 43 1 P.Read ∷ grant 44 4 P.ReadWrite ∷ []) ∷ (grant 40 8 P.ExecuteRead ∷ []) ∷ [])
+    ((grant 0 4 P.ExecuteRead ∷ grant 40 1 P.Read ∷ grant 41 1 P.ReadWrite ∷ grant 43 1 P.Read ∷ grant 44 4 P.ReadWrite ∷ [])
+    ∷ (grant 40 8 P.ExecuteRead ∷ []) ∷ [])
     (give 40 8 1 ∷ [])
     []
     (hart_of 1 0x80000000 (regs_with ((10, 0x800000B0) ∷ (11, 2) ∷ (17, 11) ∷ [])) [] Running ∷ []) 8
@@ -197,7 +210,8 @@ query-looks-nowhere-caches : (by (0 ∷ []) asking).core.caches
 unfolding decoded effect holds imm_result reg_result loaded number_at put_at cleared_at imm_i imm_s imm_b imm_u imm_j extended
 query-looks-nowhere-caches = refl
 
-query-looks-nowhere-harts : (by (0 ∷ []) asking).core.harts ≡ hart_of 1 0x80000004 (regs_with ((10, 3) ∷ (11, 2) ∷ (17, 11) ∷ [])) [] Running ∷ []
+query-looks-nowhere-harts : (by (0 ∷ []) asking).core.harts ≡ hart_of 1 0x80000004 (regs_with ((10, 3) ∷ (11, 2) ∷ (17, 11) ∷ [])) []
+    Running ∷ []
 unfolding decoded effect holds imm_result reg_result loaded number_at put_at cleared_at imm_i imm_s imm_b imm_u imm_j extended
 query-looks-nowhere-harts = refl
 
@@ -211,7 +225,8 @@ selves = small ((0, 115) ∷ (1, 0x00100073) ∷ (16, 115) ∷ (17, 0x00100073) 
     (hart_of 1 0x80000000 (regs_with ((17, 12) ∷ [])) [] Running ∷ hart_of 2 0x80000040 (regs_with ((17, 12) ∷ [])) [] Running ∷ []) 8
 
 self-of-each : (by (0 ∷ 1 ∷ []) selves).core.harts
-    ≡ hart_of 1 0x80000004 (regs_with ((10, 1) ∷ (17, 12) ∷ [])) [] Running ∷ hart_of 2 0x80000044 (regs_with ((10, 258) ∷ (17, 12) ∷ [])) [] Running ∷ []
+    ≡ hart_of 1 0x80000004 (regs_with ((10, 1) ∷ (17, 12) ∷ [])) [] Running
+    ∷ hart_of 2 0x80000044 (regs_with ((10, 258) ∷ (17, 12) ∷ [])) [] Running ∷ []
 unfolding decoded effect holds imm_result reg_result loaded number_at put_at cleared_at imm_i imm_s imm_b imm_u imm_j extended
 self-of-each = refl
 
@@ -238,7 +253,8 @@ unfolding decoded effect holds imm_result reg_result loaded number_at put_at cle
 load-half-harts = refl
 
 load-half-caches : (by (0 ∷ []) (accessing 0x00239283 0x800000A0)).core.caches
-    ≡ (cache ((0, span_of 0 8 P.ExecuteRead) ∷ (7, span_of 40 1 P.Read) ∷ []) ((1, span_of 40 1 P.Read) ∷ (1, span_of 0 8 P.ExecuteRead) ∷ []) 0 0 2) ∷ []
+    ≡ (cache ((0, span_of 0 8 P.ExecuteRead) ∷ (7, span_of 40 1 P.Read) ∷ [])
+    ((1, span_of 40 1 P.Read) ∷ (1, span_of 0 8 P.ExecuteRead) ∷ []) 0 0 2) ∷ []
 unfolding decoded effect holds imm_result reg_result loaded number_at put_at cleared_at imm_i imm_s imm_b imm_u imm_j extended
 load-half-caches = refl
 
@@ -258,7 +274,8 @@ unfolding decoded effect holds imm_result reg_result loaded number_at put_at cle
 load-into-x0-harts = refl
 
 load-into-x0-caches : (by (0 ∷ []) (accessing 0x0003A003 0x800000AC)).core.caches
-    ≡ (cache ((0, span_of 0 8 P.ExecuteRead) ∷ (7, span_of 43 1 P.ExecuteRead) ∷ []) ((1, span_of 43 1 P.ExecuteRead) ∷ (1, span_of 0 8 P.ExecuteRead) ∷ []) 0 0 2) ∷ []
+    ≡ (cache ((0, span_of 0 8 P.ExecuteRead) ∷ (7, span_of 43 1 P.ExecuteRead) ∷ [])
+    ((1, span_of 43 1 P.ExecuteRead) ∷ (1, span_of 0 8 P.ExecuteRead) ∷ []) 0 0 2) ∷ []
 unfolding decoded effect holds imm_result reg_result loaded number_at put_at cleared_at imm_i imm_s imm_b imm_u imm_j extended
 load-into-x0-caches = refl
 
@@ -269,7 +286,8 @@ unfolding decoded effect holds imm_result reg_result loaded number_at put_at cle
 store-byte-ram = refl
 
 store-byte-caches : (by (0 ∷ []) (accessing 0x00638123 0x800000A4)).core.caches
-    ≡ (cache ((0, span_of 0 8 P.ExecuteRead) ∷ (7, span_of 41 1 P.ReadWrite) ∷ []) ((1, span_of 41 1 P.ReadWrite) ∷ (1, span_of 0 8 P.ExecuteRead) ∷ []) 0 0 2) ∷ []
+    ≡ (cache ((0, span_of 0 8 P.ExecuteRead) ∷ (7, span_of 41 1 P.ReadWrite) ∷ [])
+    ((1, span_of 41 1 P.ReadWrite) ∷ (1, span_of 0 8 P.ExecuteRead) ∷ []) 0 0 2) ∷ []
 unfolding decoded effect holds imm_result reg_result loaded number_at put_at cleared_at imm_i imm_s imm_b imm_u imm_j extended
 store-byte-caches = refl
 
@@ -294,7 +312,8 @@ unfolding decoded effect holds imm_result reg_result loaded number_at put_at cle
 load-denied-harts = refl
 
 load-denied-caches : (by (0 ∷ []) (accessing 0x00038283 0x800000A8)).core.caches
-    ≡ (cache ((0, span_of 0 8 P.ExecuteRead) ∷ (7, span_of 42 1 P.None) ∷ []) ((1, span_of 42 1 P.None) ∷ (1, span_of 0 8 P.ExecuteRead) ∷ []) 0 0 2) ∷ []
+    ≡ (cache ((0, span_of 0 8 P.ExecuteRead) ∷ (7, span_of 42 1 P.None) ∷ [])
+    ((1, span_of 42 1 P.None) ∷ (1, span_of 0 8 P.ExecuteRead) ∷ []) 0 0 2) ∷ []
 unfolding decoded effect holds imm_result reg_result loaded number_at put_at cleared_at imm_i imm_s imm_b imm_u imm_j extended
 load-denied-caches = refl
 
@@ -363,7 +382,8 @@ full_buffer = small ((0, 0x0002A303) ∷ (1, 0x0402A303) ∷ (2, 0x0802A303) ∷
     (hart_of 1 0x80000000 (regs_with ((5, 0x80000040) ∷ [])) [] Running ∷ []) 2
 
 buffer-of-two : (by (replicate 4 0) full_buffer).core.caches
-    ≡ (cache ((0, span_of 0 4 P.ExecuteRead) ∷ (5, span_of 16 1 P.Read) ∷ []) ((1, span_of 16 1 P.Read) ∷ (1, span_of 48 1 P.Read) ∷ []) 3 0 5) ∷ []
+    ≡ (cache ((0, span_of 0 4 P.ExecuteRead) ∷ (5, span_of 16 1 P.Read) ∷ []) ((1, span_of 16 1 P.Read) ∷ (1, span_of 48 1 P.Read) ∷ []) 3 0
+    5) ∷ []
 unfolding decoded effect holds imm_result reg_result loaded number_at put_at cleared_at imm_i imm_s imm_b imm_u imm_j extended
 buffer-of-two = refl
 
@@ -374,10 +394,12 @@ staying = small ((0, 115) ∷ (1, 0x00128293) ∷ (2, 0x00100073) ∷ [])
     ((grant 0 4 P.ExecuteRead ∷ []) ∷ [] ∷ [])
     (give 0 2 1 ∷ [])
     []
-    (hart_of 1 0x80000000 (regs_with ((10, 6) ∷ (17, 1) ∷ [])) (frame 0x80000024 2 (saved_with []) ∷ []) Running ∷ hart_of 2 0x80000020 (regs_with []) [] Running ∷ []) 8
+    (hart_of 1 0x80000000 (regs_with ((10, 6) ∷ (17, 1) ∷ [])) (frame 0x80000024 2 (saved_with []) ∷ []) Running
+    ∷ hart_of 2 0x80000020 (regs_with []) [] Running ∷ []) 8
 
 no-exit-harts : (by (0 ∷ []) staying).core.harts
-    ≡ hart_of 1 0x80000004 (regs_with ((10, 0xFFFFFFF6) ∷ (17, 1) ∷ [])) (frame 0x80000024 2 (saved_with []) ∷ []) Running ∷ hart_of 2 0x80000020 (regs_with []) [] Running ∷ []
+    ≡ hart_of 1 0x80000004 (regs_with ((10, 0xFFFFFFF6) ∷ (17, 1) ∷ [])) (frame 0x80000024 2 (saved_with []) ∷ []) Running
+    ∷ hart_of 2 0x80000020 (regs_with []) [] Running ∷ []
 unfolding decoded effect holds imm_result reg_result loaded number_at put_at cleared_at imm_i imm_s imm_b imm_u imm_j extended
 no-exit-harts = refl
 
@@ -391,10 +413,13 @@ nesting = small ((0, 115) ∷ (1, 0x00128293) ∷ (2, 0x00100073) ∷ [])
     ((grant 0 4 P.ExecuteRead ∷ []) ∷ [] ∷ [])
     (give 0 2 1 ∷ [])
     []
-    (hart_of 1 0x80000000 (regs_with ((10, 1) ∷ (17, 6) ∷ [])) (frame 0x80000024 2 (saved_with []) ∷ []) Running ∷ hart_of 2 0x80000020 (regs_with []) [] Running ∷ []) 8
+    (hart_of 1 0x80000000 (regs_with ((10, 1) ∷ (17, 6) ∷ [])) (frame 0x80000024 2 (saved_with []) ∷ []) Running
+    ∷ hart_of 2 0x80000020 (regs_with []) [] Running ∷ []) 8
 
 nested-alloc : (by (0 ∷ []) nesting).core.harts
-    ≡ hart_of 1 0x80000000 (regs_with ((10, 1) ∷ (17, 6) ∷ [])) (frame 0x80000024 2 (saved_with []) ∷ []) (Waiting (call 6 (1 ∷ 0 ∷ 0 ∷ 0 ∷ []) 0 1 true) (false ∷ false ∷ false ∷ false ∷ [])) ∷ hart_of 2 0x80000020 (regs_with []) [] Running ∷ []
+    ≡ hart_of 1 0x80000000 (regs_with ((10, 1) ∷ (17, 6) ∷ [])) (frame 0x80000024 2 (saved_with []) ∷ [])
+    (Waiting (call 6 (1 ∷ 0 ∷ 0 ∷ 0 ∷ []) 0 1 true) (false ∷ false ∷ false ∷ false ∷ []))
+    ∷ hart_of 2 0x80000020 (regs_with []) [] Running ∷ []
 unfolding decoded effect holds imm_result reg_result loaded number_at put_at cleared_at imm_i imm_s imm_b imm_u imm_j extended
 nested-alloc = refl
 

@@ -5,7 +5,8 @@ use Rattle.mx_words.specs.Ranges.{ram_base}
 use Rattle.mx_isa.specs.declared.inst.Inst.{Inst}
 use Rattle.mx_isa.specs.declared.inst.Inst.TheVariants.{Lui, Auipc, Jal, Jalr, Branch, Load, Store, OpImm, Op, Fence, Ecall, Ebreak}
 use Rattle.mx_isa.specs.declared.inst.StoreWidth.{StoreWidth}
-use Rattle.mx_model.specs.Effect.{Effect, Goes, Faults, Loads, Stores, Calls, Jumps, effect, reg, next, load_size, store_size, plus, taken, holds}
+use Rattle.mx_model.specs.Effect.{Effect, Goes, Faults, Loads, Stores, Calls, Jumps, effect, reg, next, load_size, store_size, plus, taken}
+use Rattle.mx_model.specs.Effect.{holds}
 
 abbrev pub IsAligned : Effect → Type 0
 IsAligned (Goes regs pc) = Unit {0}
@@ -32,7 +33,8 @@ aligned-effect (Branch c rs1 rs2 imm) regs pc =
     (λ e. aligned-choice (plus pc imm % 4 == 0) (Goes regs (plus pc imm)) (Faults 0 (plus pc imm)) (λ f. tt) tt) tt
 aligned-effect (Load width rd rs1 imm) regs pc =
     let address = plus (reg regs rs1) imm in
-    aligned-choice (address % load_size width == 0) (Loads rs1 address width rd) (Faults 4 address) (λ e. eqb-true (address % load_size width) 0 e) tt
+    aligned-choice (address % load_size width == 0) (Loads rs1 address width rd) (Faults 4 address) (λ e.
+    eqb-true (address % load_size width) 0 e) tt
 aligned-effect (Store width rs1 rs2 imm) regs pc =
     let address = plus (reg regs rs1) imm in
     aligned-choice (address % store_size width == 0) (Stores rs1 address (store_size width) (reg regs rs2)) (Faults 6 address)

@@ -20,7 +20,8 @@ abbrev border_of : ℕ → Perm → Bool → List Gate → Border
 border_of word p dead gates =
     let s = small ((4, word) ∷ []) (record no_module { dead = dead } ∷ no_module ∷ [])
     ((grant 4 1 p ∷ grant 40 1 P.Read ∷ grant 42 1 P.ReadWrite ∷ []) ∷ [] ∷ []) [] gates
-    (hart_of 1 0x80000010 (regs_with ((1, 0x80000008) ∷ (7, 0x800000A0) ∷ (10, 10) ∷ (11, 11) ∷ (12, 12) ∷ (13, 13) ∷ (17, 9) ∷ [])) [] Running ∷ []) 8 in
+    (hart_of 1 0x80000010 (regs_with ((1, 0x80000008) ∷ (7, 0x800000A0) ∷ (10, 10) ∷ (11, 11) ∷ (12, 12) ∷ (13, 13) ∷ (17, 9) ∷ [])) []
+    Running ∷ []) 8 in
     border (reads s) s.core 0
 
 -- a dead domain, before all others
@@ -111,10 +112,12 @@ unfolding decoded effect holds imm_result reg_result loaded number_at imm_i imm_
 allowed-store = refl
 
 -- a standing is a status without the call, the hearing and the exit code
-standings : list_map standing (Running ∷ Waiting (call 3 [] 0 1 false) nobody ∷ Halted None ∷ Halted (Some 5) ∷ []) ≡ Runs ∷ Waits ∷ Ended ∷ Ended ∷ []
+standings : list_map standing (Running ∷ Waiting (call 3 [] 0 1 false) nobody ∷ Halted None ∷ Halted (Some 5) ∷ []) ≡ Runs ∷ Waits ∷ Ended
+    ∷ Ended ∷ []
 standings = refl
 
 -- the target of the gate of a domain at a word
-targets : list_map (λ (p : ℕ × ℕ). target_at (small [] [] [] [] (gate 1 4 2 ∷ gate 2 4 2 ∷ gate 1 5 1 ∷ []) [] 8).core p.0 p.1) ((1, 4) ∷ (2, 4) ∷ (1, 5) ∷ (2, 5) ∷ [])
+targets : list_map (λ (p : ℕ × ℕ). target_at (small [] [] [] [] (gate 1 4 2 ∷ gate 2 4 2 ∷ gate 1 5 1 ∷ []) [] 8).core p.0 p.1)
+    ((1, 4) ∷ (2, 4) ∷ (1, 5) ∷ (2, 5) ∷ [])
     ≡ Some 2 ∷ Some 2 ∷ Some 1 ∷ None ∷ []
 targets = refl

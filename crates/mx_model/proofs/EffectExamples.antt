@@ -17,7 +17,8 @@ use Rattle.mx_model.proofs.Boots.{regs_with}
 
 -- pairs of operands: of both signs, at the corners of 32 bits, zero, and a shift by more than 31
 abbrev pairs : List (ℕ × ℕ)
-pairs = (7, 0xFFFFFFFD) ∷ (0x80000000, 0xFFFFFFFF) ∷ (0xFFFFFFF9, 3) ∷ (5, 33) ∷ (0x80000005, 0) ∷ (0x7FFFFFFF, 0x80000000) ∷ (0x80000000, 0x80000000) ∷ []
+pairs = (7, 0xFFFFFFFD) ∷ (0x80000000, 0xFFFFFFFF) ∷ (0xFFFFFFF9, 3) ∷ (5, 33) ∷ (0x80000005, 0) ∷ (0x7FFFFFFF, 0x80000000)
+    ∷ (0x80000000, 0x80000000) ∷ []
 
 abbrev by_registers : RegOp → List ℕ
 by_registers op = list_map (λ (p : ℕ × ℕ). reg_result op p.0 p.1) pairs

@@ -46,11 +46,13 @@ pub return-gate-of : (c : Core) (d word : ℕ) → is_return c.gates d word ≡ 
 return-gate-of c d word = own-found d word (gate_at c.gates d word) (found-passes (is_at d word) c.gates)
 
 -- at an address
-call-gate-in : (c : Core) (d : ℕ) (o : Option ℕ) → option_map_or (call_gate c.gates d) o None ≡ called_domain d (option_map_or (target_at c d) o None)
+call-gate-in : (c : Core) (d : ℕ) (o : Option ℕ) → option_map_or (call_gate c.gates d) o None
+    ≡ called_domain d (option_map_or (target_at c d) o None)
 call-gate-in c d None = refl
 call-gate-in c d (Some word) = call-gate-of c d word
 
-return-gate-in : (c : Core) (d : ℕ) (o : Option ℕ) → option_map_or (is_return c.gates d) o false ≡ is_own d (option_map_or (target_at c d) o None)
+return-gate-in : (c : Core) (d : ℕ) (o : Option ℕ) → option_map_or (is_return c.gates d) o false
+    ≡ is_own d (option_map_or (target_at c d) o None)
 return-gate-in c d None = refl
 return-gate-in c d (Some word) = return-gate-of c d word
 

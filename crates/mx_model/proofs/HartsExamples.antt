@@ -16,7 +16,8 @@ use Rattle.mx_model.specs.State.{Module, State, Running, Waiting, Halted, cache_
 use Rattle.mx_model.proofs.Boots.{fault, regs_with}
 use Rattle.mx_model.proofs.Smalls.{area, by, cache, call, give, grant, hart_of, kinds, run_of, small, span_of}
 
--- the first hart takes words 40 to 43 from domain 2 by a grant of nothing, while the second, in that domain, loads word 40 again and again: the
+-- the first hart takes words 40 to 43 from domain 2 by a grant of nothing, while the second, in that domain, loads word 40 again and again:
+-- the
 -- grant is announced, heard (the span that meets it is dropped, and the next walk keeps nothing), and served
 abbrev granting : State
 granting = small ((0, 115) ∷ (1, 0x00100073) ∷ (16, 0x0002A303) ∷ (17, 0x0002A303) ∷ (18, 0x0002A303) ∷ (19, 0x0002A303) ∷ [])
@@ -24,15 +25,20 @@ granting = small ((0, 115) ∷ (1, 0x00100073) ∷ (16, 0x0002A303) ∷ (17, 0x0
     ((grant 0 4 P.ExecuteRead ∷ []) ∷ (grant 16 8 P.ExecuteRead ∷ grant 40 4 P.Read ∷ grant 44 4 P.ReadWrite ∷ []) ∷ [])
     (give 40 4 1 ∷ [])
     []
-    (hart_of 1 0x80000000 (regs_with ((10, 0x800000A0) ∷ (11, 16) ∷ (12, 2) ∷ (17, 3) ∷ [])) [] Running ∷ hart_of 2 0x80000040 (regs_with ((5, 0x800000A0) ∷ [])) [] Running ∷ []) 8
+    (hart_of 1 0x80000000 (regs_with ((10, 0x800000A0) ∷ (11, 16) ∷ (12, 2) ∷ (17, 3) ∷ [])) [] Running
+    ∷ hart_of 2 0x80000040 (regs_with ((5, 0x800000A0) ∷ [])) [] Running ∷ []) 8
 
 announced-harts : (by (1 ∷ 0 ∷ []) granting).core.harts
-    ≡ hart_of 1 0x80000000 (regs_with ((10, 0x800000A0) ∷ (11, 16) ∷ (12, 2) ∷ (17, 3) ∷ [])) [] (Waiting (call 3 (0x800000A0 ∷ 16 ∷ 2 ∷ 0 ∷ []) 0 1 false) (false ∷ false ∷ false ∷ false ∷ [])) ∷ hart_of 2 0x80000044 (regs_with ((5, 0x800000A0) ∷ [])) [] Running ∷ []
+    ≡ hart_of 1 0x80000000 (regs_with ((10, 0x800000A0) ∷ (11, 16) ∷ (12, 2) ∷ (17, 3) ∷ [])) []
+    (Waiting (call 3 (0x800000A0 ∷ 16 ∷ 2 ∷ 0 ∷ []) 0 1 false) (false ∷ false ∷ false ∷ false ∷ []))
+    ∷ hart_of 2 0x80000044 (regs_with ((5, 0x800000A0) ∷ [])) [] Running ∷ []
 unfolding decoded effect holds imm_result reg_result loaded number_at put_at cleared_at imm_i imm_s imm_b imm_u imm_j extended
 announced-harts = refl
 
 announced-caches : (by (1 ∷ 0 ∷ []) granting).core.caches
-    ≡ (cache ((0, span_of 0 4 P.ExecuteRead) ∷ []) ((1, span_of 0 4 P.ExecuteRead) ∷ []) 0 0 1) ∷ (cache ((0, span_of 16 8 P.ExecuteRead) ∷ (5, span_of 40 4 P.Read) ∷ []) ((2, span_of 40 4 P.Read) ∷ (2, span_of 16 8 P.ExecuteRead) ∷ []) 0 0 2) ∷ []
+    ≡ (cache ((0, span_of 0 4 P.ExecuteRead) ∷ []) ((1, span_of 0 4 P.ExecuteRead) ∷ []) 0 0 1)
+    ∷ (cache ((0, span_of 16 8 P.ExecuteRead) ∷ (5, span_of 40 4 P.Read) ∷ [])
+    ((2, span_of 40 4 P.Read) ∷ (2, span_of 16 8 P.ExecuteRead) ∷ []) 0 0 2) ∷ []
 unfolding decoded effect holds imm_result reg_result loaded number_at put_at cleared_at imm_i imm_s imm_b imm_u imm_j extended
 announced-caches = refl
 
@@ -41,18 +47,22 @@ unfolding decoded effect holds imm_result reg_result loaded number_at put_at cle
 announced-kinds = refl
 
 -- a call that a hart hasn't heard keeps it from nothing
-look-before-hearing : cache_at (looked_all (reads (by (0 ∷ []) granting)) 1 (record { place = 5; domain = 2; word = 40 } ∷ []) (by (0 ∷ []) granting).core) 1
+look-before-hearing : cache_at (looked_all (reads (by (0 ∷ []) granting)) 1 (record { place = 5; domain = 2; word = 40 } ∷ [])
+    (by (0 ∷ []) granting).core) 1
     ≡ cache ((5, span_of 40 4 P.Read) ∷ []) ((2, span_of 40 4 P.Read) ∷ []) 0 0 1
 unfolding decoded effect holds imm_result reg_result loaded number_at put_at cleared_at imm_i imm_s imm_b imm_u imm_j extended
 look-before-hearing = refl
 
 heard-harts : (by (1 ∷ 0 ∷ 0 ∷ 1 ∷ []) granting).core.harts
-    ≡ hart_of 1 0x80000000 (regs_with ((10, 0x800000A0) ∷ (11, 16) ∷ (12, 2) ∷ (17, 3) ∷ [])) [] (Waiting (call 3 (0x800000A0 ∷ 16 ∷ 2 ∷ 0 ∷ []) 0 1 false) (false ∷ true ∷ false ∷ false ∷ [])) ∷ hart_of 2 0x80000048 (regs_with ((5, 0x800000A0) ∷ [])) [] Running ∷ []
+    ≡ hart_of 1 0x80000000 (regs_with ((10, 0x800000A0) ∷ (11, 16) ∷ (12, 2) ∷ (17, 3) ∷ [])) []
+    (Waiting (call 3 (0x800000A0 ∷ 16 ∷ 2 ∷ 0 ∷ []) 0 1 false) (false ∷ true ∷ false ∷ false ∷ []))
+    ∷ hart_of 2 0x80000048 (regs_with ((5, 0x800000A0) ∷ [])) [] Running ∷ []
 unfolding decoded effect holds imm_result reg_result loaded number_at put_at cleared_at imm_i imm_s imm_b imm_u imm_j extended
 heard-harts = refl
 
 heard-caches : (by (1 ∷ 0 ∷ 0 ∷ 1 ∷ []) granting).core.caches
-    ≡ (cache ((0, span_of 0 4 P.ExecuteRead) ∷ []) ((1, span_of 0 4 P.ExecuteRead) ∷ []) 0 0 1) ∷ (cache ((0, span_of 16 8 P.ExecuteRead) ∷ []) ((2, span_of 16 8 P.ExecuteRead) ∷ []) 1 0 3) ∷ []
+    ≡ (cache ((0, span_of 0 4 P.ExecuteRead) ∷ []) ((1, span_of 0 4 P.ExecuteRead) ∷ []) 0 0 1)
+    ∷ (cache ((0, span_of 16 8 P.ExecuteRead) ∷ []) ((2, span_of 16 8 P.ExecuteRead) ∷ []) 1 0 3) ∷ []
 unfolding decoded effect holds imm_result reg_result loaded number_at put_at cleared_at imm_i imm_s imm_b imm_u imm_j extended
 heard-caches = refl
 
@@ -61,12 +71,15 @@ unfolding decoded effect holds imm_result reg_result loaded number_at put_at cle
 heard-kinds = refl
 
 served-harts : (by (1 ∷ 0 ∷ 1 ∷ 0 ∷ 1 ∷ []) granting).core.harts
-    ≡ hart_of 1 0x80000004 (regs_with ((11, 16) ∷ (12, 2) ∷ (17, 3) ∷ [])) [] Running ∷ hart_of 2 0x80000048 (regs_with ((5, 0x800000A0) ∷ [])) [] (Halted None) ∷ []
+    ≡ hart_of 1 0x80000004 (regs_with ((11, 16) ∷ (12, 2) ∷ (17, 3) ∷ [])) [] Running
+    ∷ hart_of 2 0x80000048 (regs_with ((5, 0x800000A0) ∷ [])) [] (Halted None) ∷ []
 unfolding decoded effect holds imm_result reg_result loaded number_at put_at cleared_at imm_i imm_s imm_b imm_u imm_j extended
 served-harts = refl
 
 served-caches : (by (1 ∷ 0 ∷ 1 ∷ 0 ∷ 1 ∷ []) granting).core.caches
-    ≡ (cache ((0, span_of 0 4 P.ExecuteRead) ∷ []) ((1, span_of 0 4 P.ExecuteRead) ∷ []) 0 0 1) ∷ (cache ((0, span_of 16 8 P.ExecuteRead) ∷ (5, span_of 24 20 P.None) ∷ []) ((2, span_of 24 20 P.None) ∷ (2, span_of 16 8 P.ExecuteRead) ∷ []) 2 0 4) ∷ []
+    ≡ (cache ((0, span_of 0 4 P.ExecuteRead) ∷ []) ((1, span_of 0 4 P.ExecuteRead) ∷ []) 0 0 1)
+    ∷ (cache ((0, span_of 16 8 P.ExecuteRead) ∷ (5, span_of 24 20 P.None) ∷ [])
+    ((2, span_of 24 20 P.None) ∷ (2, span_of 16 8 P.ExecuteRead) ∷ []) 2 0 4) ∷ []
 unfolding decoded effect holds imm_result reg_result loaded number_at put_at cleared_at imm_i imm_s imm_b imm_u imm_j extended
 served-caches = refl
 
@@ -79,7 +92,8 @@ unfolding decoded effect holds imm_result reg_result loaded number_at put_at cle
 served-notes = refl
 
 heard-twice-caches : (by (1 ∷ 0 ∷ 1 ∷ 1 ∷ 0 ∷ []) granting).core.caches
-    ≡ (cache ((0, span_of 0 4 P.ExecuteRead) ∷ []) ((1, span_of 0 4 P.ExecuteRead) ∷ []) 0 0 1) ∷ (cache ((0, span_of 16 8 P.ExecuteRead) ∷ []) ((2, span_of 16 8 P.ExecuteRead) ∷ []) 2 0 4) ∷ []
+    ≡ (cache ((0, span_of 0 4 P.ExecuteRead) ∷ []) ((1, span_of 0 4 P.ExecuteRead) ∷ []) 0 0 1)
+    ∷ (cache ((0, span_of 16 8 P.ExecuteRead) ∷ []) ((2, span_of 16 8 P.ExecuteRead) ∷ []) 2 0 4) ∷ []
 unfolding decoded effect holds imm_result reg_result loaded number_at put_at cleared_at imm_i imm_s imm_b imm_u imm_j extended
 heard-twice-caches = refl
 
@@ -94,10 +108,12 @@ waiting = small ((0, 115) ∷ (1, 0x00100073) ∷ (16, 115) ∷ (17, 0x00100073)
     ((grant 0 4 P.ExecuteRead ∷ []) ∷ (grant 16 8 P.ExecuteRead ∷ []) ∷ [])
     (give 40 4 1 ∷ give 48 4 2 ∷ [])
     []
-    (hart_of 1 0x80000000 (regs_with ((10, 0x800000A0) ∷ (11, 4) ∷ (12, 2) ∷ (17, 3) ∷ [])) [] Running ∷ hart_of 2 0x80000040 (regs_with ((10, 0x800000C0) ∷ (11, 4) ∷ (17, 4) ∷ [])) [] Running ∷ []) 8
+    (hart_of 1 0x80000000 (regs_with ((10, 0x800000A0) ∷ (11, 4) ∷ (12, 2) ∷ (17, 3) ∷ [])) [] Running
+    ∷ hart_of 2 0x80000040 (regs_with ((10, 0x800000C0) ∷ (11, 4) ∷ (17, 4) ∷ [])) [] Running ∷ []) 8
 
 both-served-harts : (by (0 ∷ 1 ∷ 1 ∷ 0 ∷ 1 ∷ []) waiting).core.harts
-    ≡ hart_of 1 0x80000004 (regs_with ((11, 4) ∷ (12, 2) ∷ (17, 3) ∷ [])) [] Running ∷ hart_of 2 0x80000044 (regs_with ((11, 4) ∷ (17, 4) ∷ [])) [] Running ∷ []
+    ≡ hart_of 1 0x80000004 (regs_with ((11, 4) ∷ (12, 2) ∷ (17, 3) ∷ [])) [] Running
+    ∷ hart_of 2 0x80000044 (regs_with ((11, 4) ∷ (17, 4) ∷ [])) [] Running ∷ []
 unfolding decoded effect holds imm_result reg_result loaded number_at put_at cleared_at imm_i imm_s imm_b imm_u imm_j extended
 both-served-harts = refl
 
@@ -117,15 +133,19 @@ halting = small ((0, 115) ∷ (1, 0x00100073) ∷ (16, 0x0002A303) ∷ (17, 0x00
     ((grant 0 4 P.ExecuteRead ∷ []) ∷ (grant 16 8 P.ExecuteRead ∷ grant 40 4 P.Read ∷ grant 44 4 P.ReadWrite ∷ []) ∷ [])
     (give 40 4 1 ∷ [])
     []
-    (hart_of 1 0x80000000 (regs_with ((10, 0x800000A0) ∷ (11, 4) ∷ (12, 2) ∷ (13, 3) ∷ (17, 3) ∷ [])) [] Running ∷ hart_of 2 0x80000040 (regs_with ((5, 0x800000A0) ∷ [])) [] Running ∷ hart_of 1 0x80000000 (regs_with []) [] (Halted None) ∷ []) 8
+    (hart_of 1 0x80000000 (regs_with ((10, 0x800000A0) ∷ (11, 4) ∷ (12, 2) ∷ (13, 3) ∷ (17, 3) ∷ [])) [] Running
+    ∷ hart_of 2 0x80000040 (regs_with ((5, 0x800000A0) ∷ [])) [] Running ∷ hart_of 1 0x80000000 (regs_with []) [] (Halted None) ∷ []) 8
 
 halted-hears-nothing : (by (0 ∷ 2 ∷ []) halting).core.harts
-    ≡ hart_of 1 0x80000000 (regs_with ((10, 0x800000A0) ∷ (11, 4) ∷ (12, 2) ∷ (13, 3) ∷ (17, 3) ∷ [])) [] (Waiting (call 3 (0x800000A0 ∷ 4 ∷ 2 ∷ 3 ∷ []) 0 1 false) (false ∷ false ∷ false ∷ false ∷ [])) ∷ hart_of 2 0x80000040 (regs_with ((5, 0x800000A0) ∷ [])) [] Running ∷ hart_of 1 0x80000000 (regs_with []) [] (Halted None) ∷ []
+    ≡ hart_of 1 0x80000000 (regs_with ((10, 0x800000A0) ∷ (11, 4) ∷ (12, 2) ∷ (13, 3) ∷ (17, 3) ∷ [])) []
+    (Waiting (call 3 (0x800000A0 ∷ 4 ∷ 2 ∷ 3 ∷ []) 0 1 false) (false ∷ false ∷ false ∷ false ∷ []))
+    ∷ hart_of 2 0x80000040 (regs_with ((5, 0x800000A0) ∷ [])) [] Running ∷ hart_of 1 0x80000000 (regs_with []) [] (Halted None) ∷ []
 unfolding decoded effect holds imm_result reg_result loaded number_at put_at cleared_at imm_i imm_s imm_b imm_u imm_j extended
 halted-hears-nothing = refl
 
 one-halted-harts : (by (0 ∷ 2 ∷ 0 ∷ 1 ∷ 0 ∷ []) halting).core.harts
-    ≡ hart_of 1 0x80000004 (regs_with ((11, 4) ∷ (12, 2) ∷ (13, 3) ∷ (17, 3) ∷ [])) [] Running ∷ hart_of 2 0x80000044 (regs_with ((5, 0x800000A0) ∷ [])) [] Running ∷ hart_of 1 0x80000000 (regs_with []) [] (Halted None) ∷ []
+    ≡ hart_of 1 0x80000004 (regs_with ((11, 4) ∷ (12, 2) ∷ (13, 3) ∷ (17, 3) ∷ [])) [] Running
+    ∷ hart_of 2 0x80000044 (regs_with ((5, 0x800000A0) ∷ [])) [] Running ∷ hart_of 1 0x80000000 (regs_with []) [] (Halted None) ∷ []
 unfolding decoded effect holds imm_result reg_result loaded number_at put_at cleared_at imm_i imm_s imm_b imm_u imm_j extended
 one-halted-harts = refl
 
@@ -139,10 +159,12 @@ lonely = small ((0, 115) ∷ (1, 0x00100073) ∷ (16, 0x0002A303) ∷ (17, 0x000
     ((grant 0 4 P.ExecuteRead ∷ []) ∷ (grant 16 8 P.ExecuteRead ∷ grant 40 4 P.Read ∷ grant 44 4 P.ReadWrite ∷ []) ∷ [])
     (give 40 4 1 ∷ [])
     []
-    (hart_of 1 0x80000000 (regs_with ((10, 0x800000A0) ∷ (11, 4) ∷ (12, 2) ∷ (13, 3) ∷ (17, 3) ∷ [])) [] Running ∷ hart_of 2 0x80000040 (regs_with []) [] (Halted None) ∷ []) 8
+    (hart_of 1 0x80000000 (regs_with ((10, 0x800000A0) ∷ (11, 4) ∷ (12, 2) ∷ (13, 3) ∷ (17, 3) ∷ [])) [] Running
+    ∷ hart_of 2 0x80000040 (regs_with []) [] (Halted None) ∷ []) 8
 
 all-others-halted-harts : (by (1 ∷ 0 ∷ 7 ∷ []) lonely).core.harts
-    ≡ hart_of 1 0x80000004 (regs_with ((11, 4) ∷ (12, 2) ∷ (13, 3) ∷ (17, 3) ∷ [])) [] Running ∷ hart_of 2 0x80000040 (regs_with []) [] (Halted None) ∷ []
+    ≡ hart_of 1 0x80000004 (regs_with ((11, 4) ∷ (12, 2) ∷ (13, 3) ∷ (17, 3) ∷ [])) [] Running
+    ∷ hart_of 2 0x80000040 (regs_with []) [] (Halted None) ∷ []
 unfolding decoded effect holds imm_result reg_result loaded number_at put_at cleared_at imm_i imm_s imm_b imm_u imm_j extended
 all-others-halted-harts = refl
 
@@ -151,41 +173,54 @@ unfolding decoded effect holds imm_result reg_result loaded number_at put_at cle
 all-others-halted-kinds = refl
 
 all-others-halted-maps : list_map (λ gs. runs_of same (map gs 64)) (by (1 ∷ 0 ∷ 7 ∷ []) lonely).grants
-    ≡ (run_of 4 P.ExecuteRead ∷ run_of 60 P.None ∷ []) ∷ (run_of 16 P.None ∷ run_of 8 P.ExecuteRead ∷ run_of 16 P.None ∷ run_of 1 P.ExecuteRead ∷ run_of 3 P.Read ∷ run_of 4 P.ReadWrite ∷ run_of 16 P.None ∷ []) ∷ []
+    ≡ (run_of 4 P.ExecuteRead ∷ run_of 60 P.None ∷ []) ∷ (run_of 16 P.None ∷ run_of 8 P.ExecuteRead ∷ run_of 16 P.None
+    ∷ run_of 1 P.ExecuteRead ∷ run_of 3 P.Read ∷ run_of 4 P.ReadWrite ∷ run_of 16 P.None ∷ []) ∷ []
 unfolding decoded effect holds imm_result reg_result loaded number_at put_at cleared_at imm_i imm_s imm_b imm_u imm_j extended
 all-others-halted-maps = refl
 
 -- an alloc announces the whole heap area, also the words that no block has: the second hart looks at word 35 in it and at word 40 after it
 abbrev allocating : State
-allocating = small ((0, 115) ∷ (1, 0x00100073) ∷ (16, 0x0002A303) ∷ (17, 0x0003A303) ∷ (18, 0x0002A303) ∷ (19, 0x0003A303) ∷ (20, 0x0002A303) ∷ (21, 0x0003A303) ∷ [])
+allocating = small ((0, 115) ∷ (1, 0x00100073) ∷ (16, 0x0002A303) ∷ (17, 0x0003A303) ∷ (18, 0x0002A303) ∷ (19, 0x0003A303)
+    ∷ (20, 0x0002A303) ∷ (21, 0x0003A303) ∷ [])
     (record no_module { heap = area 32 8; blocks = area 34 2 ∷ [] } ∷ no_module ∷ [])
-    ((grant 0 4 P.ExecuteRead ∷ grant 34 2 P.ReadWrite ∷ grant 40 4 P.Read ∷ []) ∷ (grant 16 8 P.ExecuteRead ∷ grant 34 2 P.Read ∷ grant 40 4 P.Read ∷ []) ∷ [])
+    ((grant 0 4 P.ExecuteRead ∷ grant 34 2 P.ReadWrite ∷ grant 40 4 P.Read ∷ [])
+    ∷ (grant 16 8 P.ExecuteRead ∷ grant 34 2 P.Read ∷ grant 40 4 P.Read ∷ []) ∷ [])
     (give 32 8 1 ∷ [])
     []
-    (hart_of 1 0x80000000 (regs_with ((10, 1) ∷ (17, 6) ∷ [])) [] Running ∷ hart_of 2 0x80000040 (regs_with ((5, 0x8000008C) ∷ (7, 0x800000A0) ∷ [])) [] Running ∷ []) 8
+    (hart_of 1 0x80000000 (regs_with ((10, 1) ∷ (17, 6) ∷ [])) [] Running
+    ∷ hart_of 2 0x80000040 (regs_with ((5, 0x8000008C) ∷ (7, 0x800000A0) ∷ [])) [] Running ∷ []) 8
 
 alloc-announced-harts : (by (1 ∷ 1 ∷ 0 ∷ []) allocating).core.harts
-    ≡ hart_of 1 0x80000000 (regs_with ((10, 1) ∷ (17, 6) ∷ [])) [] (Waiting (call 6 (1 ∷ 0 ∷ 0 ∷ 0 ∷ []) 0 1 false) (false ∷ false ∷ false ∷ false ∷ [])) ∷ hart_of 2 0x80000048 (regs_with ((5, 0x8000008C) ∷ (7, 0x800000A0) ∷ [])) [] Running ∷ []
+    ≡ hart_of 1 0x80000000 (regs_with ((10, 1) ∷ (17, 6) ∷ [])) []
+    (Waiting (call 6 (1 ∷ 0 ∷ 0 ∷ 0 ∷ []) 0 1 false) (false ∷ false ∷ false ∷ false ∷ []))
+    ∷ hart_of 2 0x80000048 (regs_with ((5, 0x8000008C) ∷ (7, 0x800000A0) ∷ [])) [] Running ∷ []
 unfolding decoded effect holds imm_result reg_result loaded number_at put_at cleared_at imm_i imm_s imm_b imm_u imm_j extended
 alloc-announced-harts = refl
 
 alloc-announced-caches : (by (1 ∷ 1 ∷ 0 ∷ []) allocating).core.caches
-    ≡ (cache ((0, span_of 0 4 P.ExecuteRead) ∷ []) ((1, span_of 0 4 P.ExecuteRead) ∷ []) 0 0 1) ∷ (cache ((0, span_of 16 8 P.ExecuteRead) ∷ (5, span_of 34 2 P.Read) ∷ (7, span_of 40 4 P.Read) ∷ []) ((2, span_of 40 4 P.Read) ∷ (2, span_of 34 2 P.Read) ∷ (2, span_of 16 8 P.ExecuteRead) ∷ []) 1 0 3) ∷ []
+    ≡ (cache ((0, span_of 0 4 P.ExecuteRead) ∷ []) ((1, span_of 0 4 P.ExecuteRead) ∷ []) 0 0 1)
+    ∷ (cache ((0, span_of 16 8 P.ExecuteRead) ∷ (5, span_of 34 2 P.Read) ∷ (7, span_of 40 4 P.Read) ∷ [])
+    ((2, span_of 40 4 P.Read) ∷ (2, span_of 34 2 P.Read) ∷ (2, span_of 16 8 P.ExecuteRead) ∷ []) 1 0 3) ∷ []
 unfolding decoded effect holds imm_result reg_result loaded number_at put_at cleared_at imm_i imm_s imm_b imm_u imm_j extended
 alloc-announced-caches = refl
 
 alloc-heard : (by (1 ∷ 1 ∷ 0 ∷ 1 ∷ 1 ∷ []) allocating).core.caches
-    ≡ (cache ((0, span_of 0 4 P.ExecuteRead) ∷ []) ((1, span_of 0 4 P.ExecuteRead) ∷ []) 0 0 1) ∷ (cache ((0, span_of 16 8 P.ExecuteRead) ∷ (7, span_of 40 4 P.Read) ∷ []) ((2, span_of 40 4 P.Read) ∷ (2, span_of 16 8 P.ExecuteRead) ∷ []) 4 0 4) ∷ []
+    ≡ (cache ((0, span_of 0 4 P.ExecuteRead) ∷ []) ((1, span_of 0 4 P.ExecuteRead) ∷ []) 0 0 1)
+    ∷ (cache ((0, span_of 16 8 P.ExecuteRead) ∷ (7, span_of 40 4 P.Read) ∷ [])
+    ((2, span_of 40 4 P.Read) ∷ (2, span_of 16 8 P.ExecuteRead) ∷ []) 4 0 4) ∷ []
 unfolding decoded effect holds imm_result reg_result loaded number_at put_at cleared_at imm_i imm_s imm_b imm_u imm_j extended
 alloc-heard = refl
 
 alloc-served-harts : (by (1 ∷ 1 ∷ 0 ∷ 1 ∷ 1 ∷ 0 ∷ []) allocating).core.harts
-    ≡ hart_of 1 0x80000004 (regs_with ((10, 0x80000080) ∷ (17, 6) ∷ [])) [] Running ∷ hart_of 2 0x80000050 (regs_with ((5, 0x8000008C) ∷ (7, 0x800000A0) ∷ [])) [] Running ∷ []
+    ≡ hart_of 1 0x80000004 (regs_with ((10, 0x80000080) ∷ (17, 6) ∷ [])) [] Running
+    ∷ hart_of 2 0x80000050 (regs_with ((5, 0x8000008C) ∷ (7, 0x800000A0) ∷ [])) [] Running ∷ []
 unfolding decoded effect holds imm_result reg_result loaded number_at put_at cleared_at imm_i imm_s imm_b imm_u imm_j extended
 alloc-served-harts = refl
 
 alloc-served-maps : list_map (λ gs. runs_of same (map gs 64)) (by (1 ∷ 1 ∷ 0 ∷ 1 ∷ 1 ∷ 0 ∷ []) allocating).grants
-    ≡ (run_of 4 P.ExecuteRead ∷ run_of 28 P.None ∷ run_of 1 P.ReadWrite ∷ run_of 1 P.None ∷ run_of 2 P.ReadWrite ∷ run_of 4 P.None ∷ run_of 4 P.Read ∷ run_of 20 P.None ∷ []) ∷ (run_of 16 P.None ∷ run_of 8 P.ExecuteRead ∷ run_of 10 P.None ∷ run_of 2 P.Read ∷ run_of 4 P.None ∷ run_of 4 P.Read ∷ run_of 20 P.None ∷ []) ∷ []
+    ≡ (run_of 4 P.ExecuteRead ∷ run_of 28 P.None ∷ run_of 1 P.ReadWrite ∷ run_of 1 P.None ∷ run_of 2 P.ReadWrite ∷ run_of 4 P.None
+    ∷ run_of 4 P.Read ∷ run_of 20 P.None ∷ []) ∷ (run_of 16 P.None ∷ run_of 8 P.ExecuteRead ∷ run_of 10 P.None ∷ run_of 2 P.Read
+    ∷ run_of 4 P.None ∷ run_of 4 P.Read ∷ run_of 20 P.None ∷ []) ∷ []
 unfolding decoded effect holds imm_result reg_result loaded number_at put_at cleared_at imm_i imm_s imm_b imm_u imm_j extended
 alloc-served-maps = refl
 
@@ -196,25 +231,32 @@ alloc-served-blocks = refl
 
 -- and so does a free
 abbrev freeing : State
-freeing = small ((0, 115) ∷ (1, 0x00100073) ∷ (16, 0x0002A303) ∷ (17, 0x0003A303) ∷ (18, 0x0002A303) ∷ (19, 0x0003A303) ∷ (20, 0x0002A303) ∷ (21, 0x0003A303) ∷ [])
+freeing = small ((0, 115) ∷ (1, 0x00100073) ∷ (16, 0x0002A303) ∷ (17, 0x0003A303) ∷ (18, 0x0002A303) ∷ (19, 0x0003A303) ∷ (20, 0x0002A303)
+    ∷ (21, 0x0003A303) ∷ [])
     (record no_module { heap = area 32 8; blocks = area 34 2 ∷ [] } ∷ no_module ∷ [])
-    ((grant 0 4 P.ExecuteRead ∷ grant 34 2 P.ReadWrite ∷ grant 40 4 P.Read ∷ []) ∷ (grant 16 8 P.ExecuteRead ∷ grant 34 2 P.Read ∷ grant 40 4 P.Read ∷ []) ∷ [])
+    ((grant 0 4 P.ExecuteRead ∷ grant 34 2 P.ReadWrite ∷ grant 40 4 P.Read ∷ [])
+    ∷ (grant 16 8 P.ExecuteRead ∷ grant 34 2 P.Read ∷ grant 40 4 P.Read ∷ []) ∷ [])
     (give 32 8 1 ∷ [])
     []
-    (hart_of 1 0x80000000 (regs_with ((10, 0x80000088) ∷ (17, 7) ∷ [])) [] Running ∷ hart_of 2 0x80000040 (regs_with ((5, 0x8000008C) ∷ (7, 0x800000A0) ∷ [])) [] Running ∷ []) 8
+    (hart_of 1 0x80000000 (regs_with ((10, 0x80000088) ∷ (17, 7) ∷ [])) [] Running
+    ∷ hart_of 2 0x80000040 (regs_with ((5, 0x8000008C) ∷ (7, 0x800000A0) ∷ [])) [] Running ∷ []) 8
 
 free-heard : (by (1 ∷ 1 ∷ 0 ∷ 1 ∷ 1 ∷ []) freeing).core.caches
-    ≡ (cache ((0, span_of 0 4 P.ExecuteRead) ∷ []) ((1, span_of 0 4 P.ExecuteRead) ∷ []) 0 0 1) ∷ (cache ((0, span_of 16 8 P.ExecuteRead) ∷ (7, span_of 40 4 P.Read) ∷ []) ((2, span_of 40 4 P.Read) ∷ (2, span_of 16 8 P.ExecuteRead) ∷ []) 4 0 4) ∷ []
+    ≡ (cache ((0, span_of 0 4 P.ExecuteRead) ∷ []) ((1, span_of 0 4 P.ExecuteRead) ∷ []) 0 0 1)
+    ∷ (cache ((0, span_of 16 8 P.ExecuteRead) ∷ (7, span_of 40 4 P.Read) ∷ [])
+    ((2, span_of 40 4 P.Read) ∷ (2, span_of 16 8 P.ExecuteRead) ∷ []) 4 0 4) ∷ []
 unfolding decoded effect holds imm_result reg_result loaded number_at put_at cleared_at imm_i imm_s imm_b imm_u imm_j extended
 free-heard = refl
 
 free-served-harts : (by (1 ∷ 1 ∷ 0 ∷ 1 ∷ 1 ∷ 0 ∷ 1 ∷ []) freeing).core.harts
-    ≡ hart_of 1 0x80000004 (regs_with ((17, 7) ∷ [])) [] Running ∷ hart_of 2 0x80000050 (regs_with ((5, 0x8000008C) ∷ (7, 0x800000A0) ∷ [])) [] (Halted None) ∷ []
+    ≡ hart_of 1 0x80000004 (regs_with ((17, 7) ∷ [])) [] Running
+    ∷ hart_of 2 0x80000050 (regs_with ((5, 0x8000008C) ∷ (7, 0x800000A0) ∷ [])) [] (Halted None) ∷ []
 unfolding decoded effect holds imm_result reg_result loaded number_at put_at cleared_at imm_i imm_s imm_b imm_u imm_j extended
 free-served-harts = refl
 
 free-served-maps : list_map (λ gs. runs_of same (map gs 64)) (by (1 ∷ 1 ∷ 0 ∷ 1 ∷ 1 ∷ 0 ∷ 1 ∷ []) freeing).grants
-    ≡ (run_of 4 P.ExecuteRead ∷ run_of 36 P.None ∷ run_of 4 P.Read ∷ run_of 20 P.None ∷ []) ∷ (run_of 16 P.None ∷ run_of 8 P.ExecuteRead ∷ run_of 16 P.None ∷ run_of 4 P.Read ∷ run_of 20 P.None ∷ []) ∷ []
+    ≡ (run_of 4 P.ExecuteRead ∷ run_of 36 P.None ∷ run_of 4 P.Read ∷ run_of 20 P.None ∷ [])
+    ∷ (run_of 16 P.None ∷ run_of 8 P.ExecuteRead ∷ run_of 16 P.None ∷ run_of 4 P.Read ∷ run_of 20 P.None ∷ []) ∷ []
 unfolding decoded effect holds imm_result reg_result loaded number_at put_at cleared_at imm_i imm_s imm_b imm_u imm_j extended
 free-served-maps = refl
 
@@ -229,15 +271,19 @@ rangeless = small ((0, 115) ∷ (1, 0x00100073) ∷ (16, 0x0002A303) ∷ (17, 0x
     ((grant 0 4 P.ExecuteRead ∷ []) ∷ (grant 16 8 P.ExecuteRead ∷ grant 40 4 P.Read ∷ grant 44 4 P.ReadWrite ∷ []) ∷ [])
     (give 40 4 1 ∷ [])
     []
-    (hart_of 1 0x80000000 (regs_with ((10, 0x800000A2) ∷ (11, 4) ∷ (12, 2) ∷ (17, 3) ∷ [])) [] Running ∷ hart_of 2 0x80000040 (regs_with ((5, 0x800000A0) ∷ [])) [] Running ∷ []) 8
+    (hart_of 1 0x80000000 (regs_with ((10, 0x800000A2) ∷ (11, 4) ∷ (12, 2) ∷ (17, 3) ∷ [])) [] Running
+    ∷ hart_of 2 0x80000040 (regs_with ((5, 0x800000A0) ∷ [])) [] Running ∷ []) 8
 
 rangeless-grant-harts : (by (1 ∷ 0 ∷ 1 ∷ 0 ∷ []) rangeless).core.harts
-    ≡ hart_of 1 0x80000004 (regs_with ((10, 0xFFFFFFFF) ∷ (11, 4) ∷ (12, 2) ∷ (17, 3) ∷ [])) [] Running ∷ hart_of 2 0x80000048 (regs_with ((5, 0x800000A0) ∷ [])) [] Running ∷ []
+    ≡ hart_of 1 0x80000004 (regs_with ((10, 0xFFFFFFFF) ∷ (11, 4) ∷ (12, 2) ∷ (17, 3) ∷ [])) [] Running
+    ∷ hart_of 2 0x80000048 (regs_with ((5, 0x800000A0) ∷ [])) [] Running ∷ []
 unfolding decoded effect holds imm_result reg_result loaded number_at put_at cleared_at imm_i imm_s imm_b imm_u imm_j extended
 rangeless-grant-harts = refl
 
 rangeless-grant-caches : (by (1 ∷ 0 ∷ 1 ∷ 0 ∷ []) rangeless).core.caches
-    ≡ (cache ((0, span_of 0 4 P.ExecuteRead) ∷ []) ((1, span_of 0 4 P.ExecuteRead) ∷ []) 0 0 1) ∷ (cache ((0, span_of 16 8 P.ExecuteRead) ∷ (5, span_of 40 4 P.Read) ∷ []) ((2, span_of 40 4 P.Read) ∷ (2, span_of 16 8 P.ExecuteRead) ∷ []) 2 0 2) ∷ []
+    ≡ (cache ((0, span_of 0 4 P.ExecuteRead) ∷ []) ((1, span_of 0 4 P.ExecuteRead) ∷ []) 0 0 1)
+    ∷ (cache ((0, span_of 16 8 P.ExecuteRead) ∷ (5, span_of 40 4 P.Read) ∷ [])
+    ((2, span_of 40 4 P.Read) ∷ (2, span_of 16 8 P.ExecuteRead) ∷ []) 2 0 2) ∷ []
 unfolding decoded effect holds imm_result reg_result loaded number_at put_at cleared_at imm_i imm_s imm_b imm_u imm_j extended
 rangeless-grant-caches = refl
 
@@ -251,26 +297,33 @@ heapless = small ((0, 115) ∷ (1, 0x00100073) ∷ (16, 0x0002A303) ∷ (17, 0x0
     ((grant 0 4 P.ExecuteRead ∷ []) ∷ (grant 16 8 P.ExecuteRead ∷ grant 40 4 P.Read ∷ grant 44 4 P.ReadWrite ∷ []) ∷ [])
     (give 40 4 1 ∷ [])
     []
-    (hart_of 1 0x80000000 (regs_with ((10, 1) ∷ (17, 6) ∷ [])) [] Running ∷ hart_of 2 0x80000040 (regs_with ((5, 0x800000A0) ∷ [])) [] Running ∷ []) 8
+    (hart_of 1 0x80000000 (regs_with ((10, 1) ∷ (17, 6) ∷ [])) [] Running
+    ∷ hart_of 2 0x80000040 (regs_with ((5, 0x800000A0) ∷ [])) [] Running ∷ []) 8
 
 heapless-alloc-harts : (by (1 ∷ 0 ∷ 1 ∷ 0 ∷ []) heapless).core.harts
-    ≡ hart_of 1 0x80000004 (regs_with ((10, 0xFFFFFFFA) ∷ (17, 6) ∷ [])) [] Running ∷ hart_of 2 0x80000048 (regs_with ((5, 0x800000A0) ∷ [])) [] Running ∷ []
+    ≡ hart_of 1 0x80000004 (regs_with ((10, 0xFFFFFFFA) ∷ (17, 6) ∷ [])) [] Running
+    ∷ hart_of 2 0x80000048 (regs_with ((5, 0x800000A0) ∷ [])) [] Running ∷ []
 unfolding decoded effect holds imm_result reg_result loaded number_at put_at cleared_at imm_i imm_s imm_b imm_u imm_j extended
 heapless-alloc-harts = refl
 
 heapless-alloc-caches : (by (1 ∷ 0 ∷ 1 ∷ 0 ∷ []) heapless).core.caches
-    ≡ (cache ((0, span_of 0 4 P.ExecuteRead) ∷ []) ((1, span_of 0 4 P.ExecuteRead) ∷ []) 0 0 1) ∷ (cache ((0, span_of 16 8 P.ExecuteRead) ∷ (5, span_of 40 4 P.Read) ∷ []) ((2, span_of 40 4 P.Read) ∷ (2, span_of 16 8 P.ExecuteRead) ∷ []) 2 0 2) ∷ []
+    ≡ (cache ((0, span_of 0 4 P.ExecuteRead) ∷ []) ((1, span_of 0 4 P.ExecuteRead) ∷ []) 0 0 1)
+    ∷ (cache ((0, span_of 16 8 P.ExecuteRead) ∷ (5, span_of 40 4 P.Read) ∷ [])
+    ((2, span_of 40 4 P.Read) ∷ (2, span_of 16 8 P.ExecuteRead) ∷ []) 2 0 2) ∷ []
 unfolding decoded effect holds imm_result reg_result loaded number_at put_at cleared_at imm_i imm_s imm_b imm_u imm_j extended
 heapless-alloc-caches = refl
 
 -- two calls in flight, of the first and the third hart, of which each other hart has heard some
 abbrev flights : State
-flights = small ((0, 115) ∷ (1, 0x00100073) ∷ (16, 0x0002A303) ∷ (17, 0x0002A303) ∷ (18, 0x0002A303) ∷ (19, 0x0002A303) ∷ (24, 115) ∷ (25, 0x00100073) ∷ [])
+flights = small ((0, 115) ∷ (1, 0x00100073) ∷ (16, 0x0002A303) ∷ (17, 0x0002A303) ∷ (18, 0x0002A303) ∷ (19, 0x0002A303) ∷ (24, 115)
+    ∷ (25, 0x00100073) ∷ [])
     (no_module ∷ no_module ∷ [])
     ((grant 0 4 P.ExecuteRead ∷ []) ∷ (grant 16 16 P.ExecuteRead ∷ []) ∷ [])
     (give 40 4 1 ∷ give 48 4 2 ∷ [])
     []
-    (hart_of 1 0x80000000 (regs_with ((10, 0x800000A0) ∷ (11, 8) ∷ (12, 2) ∷ (17, 3) ∷ [])) [] Running ∷ hart_of 2 0x80000040 (regs_with ((5, 0x800000A0) ∷ [])) [] Running ∷ hart_of 2 0x80000060 (regs_with ((10, 0x800000C4) ∷ (11, 8) ∷ (17, 4) ∷ [])) [] Running ∷ []) 8
+    (hart_of 1 0x80000000 (regs_with ((10, 0x800000A0) ∷ (11, 8) ∷ (12, 2) ∷ (17, 3) ∷ [])) [] Running
+    ∷ hart_of 2 0x80000040 (regs_with ((5, 0x800000A0) ∷ [])) [] Running
+    ∷ hart_of 2 0x80000060 (regs_with ((10, 0x800000C4) ∷ (11, 8) ∷ (17, 4) ∷ [])) [] Running ∷ []) 8
 
 heard-by-0 : heard_ranges (by (0 ∷ 1 ∷ 2 ∷ []) flights).core 0 ≡ []
 unfolding decoded effect holds imm_result reg_result loaded number_at put_at cleared_at imm_i imm_s imm_b imm_u imm_j extended

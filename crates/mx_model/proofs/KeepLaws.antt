@@ -1,4 +1,5 @@
--- What no turn changes: the number of words, the kind of tables, their limit and the size of the lookaside buffer; and the numbers of modules, harts
+-- What no turn changes: the number of words, the kind of tables, their limit and the size of the lookaside buffer; and the numbers of
+-- modules, harts
 -- and caches.
 use Rattle.std.proofs.Common.{◌≡◌, ℕ, ◌-◌, ◌*◌, Bool, true, false, List, [], ◌∷◌, length, cond, refl, Option, Some, None, unwrap_or, arith}
 use Rattle.std.proofs.lemmas.List.{length-map, length-set}
@@ -11,9 +12,13 @@ use Rattle.mx_model.specs.declared.values.Frame.{Frame}
 use Rattle.mx_model.specs.declared.values.Gate.{Gate}
 use Rattle.mx_model.specs.Checks.{Look, arg, hears, looked, looked_all, empties_places, drops, is_halted}
 use Rattle.mx_model.specs.Reads.{Reads}
-use Rattle.mx_model.specs.Serve.{Served, Service, Exit, Write, Grant, RevokeAll, Transfer, Alloc, Free, AddGate, RemoveGate, AddReturnGate, Query, Self, Exchange, Unknown, judged, serve, served_by, service, ended, write_from, written_out, exchange_from, exchanged, with_blocks, look_of, arg_word, allocated, alloc_place, alloc_from}
+use Rattle.mx_model.specs.Serve.{Served, Service, Exit, Write, Grant, RevokeAll, Transfer, Alloc, Free, AddGate, RemoveGate, AddReturnGate}
+use Rattle.mx_model.specs.Serve.{Query, Self, Exchange, Unknown, judged, serve, served_by, service, ended, write_from, written_out}
+use Rattle.mx_model.specs.Serve.{exchange_from, exchanged, with_blocks, look_of, arg_word, allocated, alloc_place, alloc_from}
 use Rattle.mx_model.specs.State.{Core, Hart, Module, hart_at, with_hart, with_cache, with_module}
-use Rattle.mx_model.specs.Turn.{Action, Rests, Waits, Serves, Asks, Traps, Bounces, Crosses, Returns, Runs, Writes, Decided, acted, asked, served, done, trapped, given_up, killed, over_frame, enacted, decide, heard_first, counted, turned, is_served_now}
+use Rattle.mx_model.specs.Turn.{Action, Rests, Waits, Serves, Asks, Traps, Bounces, Crosses, Returns, Runs, Writes, Decided, acted, asked}
+use Rattle.mx_model.specs.Turn.{served, done, trapped, given_up, killed, over_frame, enacted, decide, heard_first, counted, turned}
+use Rattle.mx_model.specs.Turn.{is_served_now}
 
 -- what is the same in two cores
 pub record Keeps (c e : Core) : Type 0 where

@@ -1,5 +1,6 @@
 -- Facts of all elements of a list, under the edits that a turn makes; bytes and numbers in them.
-use Rattle.std.proofs.Common.{◌≡◌, ℕ, zero, suc, ◌+◌, ◌/◌, ◌%◌, ◌^◌, ◌<◌, ◌≤◌, Bool, true, false, not, cond, nat_lt, ◌||◌, List, [], ◌∷◌, ◌++◌, length, get_or, set, take, drop, replicate, refl, ◌∙◌, ap, arith, Option, Some}
+use Rattle.std.proofs.Common.{◌≡◌, ℕ, zero, suc, ◌+◌, ◌/◌, ◌%◌, ◌^◌, ◌<◌, ◌≤◌, Bool, true, false, not, cond, nat_lt, ◌||◌, List, [], ◌∷◌}
+use Rattle.std.proofs.Common.{◌++◌, length, get_or, set, take, drop, replicate, refl, ◌∙◌, ap, arith, Option, Some}
 use mathlib.Core.List.{reverse_aux}
 use Rattle.std.specs.Prelude.{reverse, filter, find, IfSome}
 use Rattle.std.specs.List.{AllByRecursion, list_any, last_or}
@@ -22,7 +23,8 @@ all-take P zero xs h = tt
 all-take P (suc n) [] h = tt
 all-take P (suc n) (x ∷ xs) h = (h.0, all-take P n xs h.1)
 
-all-reverse_aux : {X : Type 0} (P : X → Type 0) (xs ys : List X) → AllByRecursion P xs → AllByRecursion P ys → AllByRecursion P (reverse_aux xs ys)
+all-reverse_aux : {X : Type 0} (P : X → Type 0) (xs ys : List X) → AllByRecursion P xs → AllByRecursion P ys
+    → AllByRecursion P (reverse_aux xs ys)
 all-reverse_aux P [] ys h k = k
 all-reverse_aux P (x ∷ xs) ys h k = all-reverse_aux P xs (x ∷ ys) h.1 (h.0, k)
 
@@ -48,7 +50,11 @@ all-in P (x ∷ xs) d h (suc i) l = all-in P xs d h.1 i (omega (arith, l))
 
 pub all-find : {X : Type 0} (P : X → Type 0) (test : X → Bool) (xs : List X) → AllByRecursion P xs → IfSome (find test xs) P
 all-find P test [] h = tt
-all-find P test (x ∷ xs) h = elim (test x) as (λ b. IfSome (cond b (Some x) (find test xs)) P) [ true ↦ h.0 | false ↦ all-find P test xs h.1 ]
+all-find P test (x ∷ xs) h = elim (test x) as (λ b. IfSome (cond b (Some x) (find test xs)) P) [
+  | true ↦ h.0
+  | false ↦
+      all-find P test xs h.1
+]
 
 pub found-passes : {X : Type 0} (test : X → Bool) (xs : List X) → IfSome (find test xs) (λ x. test x ≡ true)
 found-passes test [] = tt
@@ -69,20 +75,23 @@ length-filter-le test (x ∷ xs) = elim (test x) as (λ b. length (cond b (x ∷
 ]
 
 -- where some element passes, fewer don't
-pub length-filter-lt : {X : Type 0} (test : X → Bool) (xs : List X) → list_any test xs ≡ true → length (filter (λ x. not (test x)) xs) < length xs
+pub length-filter-lt : {X : Type 0} (test : X → Bool) (xs : List X) → list_any test xs ≡ true
+    → length (filter (λ x. not (test x)) xs) < length xs
 length-filter-lt test [] e = absurd (let q : ⊥ = cc in q)
 length-filter-lt test (x ∷ xs) e = elim (test x) as
-    (λ b. test x ≡ b → (b || list_any test xs) ≡ true → length (cond (not b) (x ∷ filter (λ y. not (test y)) xs) (filter (λ y. not (test y)) xs)) < suc (length xs)) [
+    (λ b. test x ≡ b → (b || list_any test xs) ≡ true → length
+    (cond (not b) (x ∷ filter (λ y. not (test y)) xs) (filter (λ y. not (test y)) xs)) < suc (length xs)) [
       | true ↦ λ t p. let q = length-filter-le (λ y. not (test y)) xs in omega (arith, q)
       | false ↦ λ t p. let q = length-filter-lt test xs p in omega (arith, q)
     ] refl e
 
 pub length-with_block : (b : Area) (xs : List Area) → length (with_block b xs) ≡ suc (length xs)
 length-with_block b [] = refl
-length-with_block b (x ∷ xs) = elim (nat_lt b.first x.first) as (λ t. length (cond t (b ∷ x ∷ xs) (x ∷ with_block b xs)) ≡ suc (suc (length xs))) [
-  | true ↦ refl
-  | false ↦ ap suc (length-with_block b xs)
-]
+length-with_block b (x ∷ xs) = elim (nat_lt b.first x.first) as (λ t.
+    length (cond t (b ∷ x ∷ xs) (x ∷ with_block b xs)) ≡ suc (suc (length xs))) [
+      | true ↦ refl
+      | false ↦ ap suc (length-with_block b xs)
+    ]
 
 bytes-set : (xs : List ℕ) (k v : ℕ) → ((i : ℕ) → get_or xs i 0 < 256) → v < 256 → (i : ℕ) → get_or (set xs k v) i 0 < 256
 bytes-set [] k v h p i = h i
@@ -130,7 +139,8 @@ length-cleared_at xs k n p = grind (arith, common_steps)
 pub bytes-cleared_at : (xs : List ℕ) (k n : ℕ) → ((i : ℕ) → get_or xs i 0 < 256) → (i : ℕ) → get_or (cleared_at xs k n) i 0 < 256
 unfolding cleared_at
 bytes-cleared_at xs k n h =
-    bytes-append (take k xs ++ replicate n 0) (drop (k + n) xs) (bytes-append (take k xs) (replicate n 0) (bytes-take k xs h) (bytes-replicate n)) (bytes-drop (k + n) xs h)
+    bytes-append (take k xs ++ replicate n 0) (drop (k + n) xs)
+    (bytes-append (take k xs) (replicate n 0) (bytes-take k xs h) (bytes-replicate n)) (bytes-drop (k + n) xs h)
 
 -- numbers in bytes
 pub number-one : (xs : List ℕ) (k : ℕ) → ((i : ℕ) → get_or xs i 0 < 256) → number_at xs k 1 < 256 ^ 1

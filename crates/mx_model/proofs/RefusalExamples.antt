@@ -16,7 +16,8 @@ use Rattle.mx_model.specs.Reads.{reads, flat_reads}
 use Rattle.mx_model.specs.Serve.{serve}
 use Rattle.mx_model.specs.State.{State, Flat, Core, no_hart, no_module}
 
--- 64 words and two modules. Module 1 owns words 16 to 25 and its heap area, words 32 to 39, in which two words are live; its line of the heap has
+-- 64 words and two modules. Module 1 owns words 16 to 25 and its heap area, words 32 to 39, in which two words are live; its line of the
+-- heap has
 -- four runs. Module 2 may read its line of words 16 to 31 but for word 17. A gate stands for module 2 at word 16.
 abbrev heap : Area
 heap = record { first = 32; count = 8 }

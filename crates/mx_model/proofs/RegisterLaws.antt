@@ -1,5 +1,6 @@
 -- Registers stay 32 numbers of 32 bits with x0 zero: writes, saves, restores, and the effect of every instruction.
-use Rattle.std.proofs.Common.{◌≡◌, ℕ, zero, suc, ◌-◌, ◌*◌, ◌%◌, ◌^◌, ◌<◌, ◌≤◌, Bool, true, false, ◌==◌, cond, List, [], ◌∷◌, length, get_or, set, fold, refl, ◌∙◌, arith, rules, lit<, eqb-true, ⊎_elim, ℤ, pos}
+use Rattle.std.proofs.Common.{◌≡◌, ℕ, zero, suc, ◌-◌, ◌*◌, ◌%◌, ◌^◌, ◌<◌, ◌≤◌, Bool, true, false, ◌==◌, cond, List, [], ◌∷◌, length, get_or}
+use Rattle.std.proofs.Common.{set, fold, refl, ◌∙◌, arith, rules, lit<, eqb-true, ⊎_elim, ℤ, pos}
 use Rattle.std.proofs.Common.{map as list_map}
 use Rattle.std.specs.Prelude.{zip, slice_set, bit_and}
 use Rattle.std.specs.Int.{int_shr}
@@ -13,9 +14,11 @@ use Rattle.mx_isa.specs.declared.inst.LoadWidth.{LoadWidth}
 use Rattle.mx_isa.specs.declared.inst.ImmOp.{ImmOp}
 use Rattle.mx_isa.specs.declared.inst.ImmOp.TheVariants.{Addi, Slti, Sltiu, Xori, Ori, Andi, Slli, Srli, Srai}
 use Rattle.mx_isa.specs.declared.inst.RegOp.{RegOp}
-use Rattle.mx_isa.specs.declared.inst.RegOp.TheVariants.{Add, Sub, Sll, Slt, Sltu, Xor, Srl, Sra, Or, And, Mul, Mulh, Mulhsu, Mulhu, Div, Divu, Rem, Remu}
+use Rattle.mx_isa.specs.declared.inst.RegOp.TheVariants.{Add, Sub, Sll, Slt, Sltu, Xor, Srl, Sra, Or, And, Mul, Mulh, Mulhsu, Mulhu, Div}
+use Rattle.mx_isa.specs.declared.inst.RegOp.TheVariants.{Divu, Rem, Remu}
 use Rattle.mx_isa.specs.Ranges.{IsValid as IsValidInst, IsExtended, IsOperand}
-use Rattle.mx_model.specs.Effect.{Effect, Goes, Faults, Loads, Stores, Calls, Jumps, effect, reg, written, plus, next, taken, takes, flag, wrapped, right, imm_result, reg_result, loaded, load_size, store_size, holds}
+use Rattle.mx_model.specs.Effect.{Effect, Goes, Faults, Loads, Stores, Calls, Jumps, effect, reg, written, plus, next, taken, takes, flag}
+use Rattle.mx_model.specs.Effect.{wrapped, right, imm_result, reg_result, loaded, load_size, store_size, holds}
 use Rattle.mx_model.specs.Turn.{saved, saved_registers, restored}
 use Rattle.mx_model.specs.Valid.{IsPc, IsRegisters}
 
@@ -154,10 +157,11 @@ IsEffect Calls = Unit {0}
 IsEffect (Jumps rd target) = target < 2 ^ 32
 
 effect-taken : (regs : List ℕ) (target : ℕ) → IsRegisters regs → target < 2 ^ 32 → IsEffect (taken regs target)
-effect-taken regs target h p = elim (target % 4 == 0) as (λ b. (target % 4 == 0) ≡ b → IsEffect (cond b (Goes regs target) (Faults 0 target))) [
-  | true ↦ λ e. (h, record { aligned = eqb-true (target % 4) 0 e; small = p })
-  | false ↦ λ e. lit< tt
-] refl
+effect-taken regs target h p = elim (target % 4 == 0) as (λ b. (target % 4 == 0) ≡ b
+    → IsEffect (cond b (Goes regs target) (Faults 0 target))) [
+      | true ↦ λ e. (h, record { aligned = eqb-true (target % 4) 0 e; small = p })
+      | false ↦ λ e. lit< tt
+    ] refl
 
 effect-takes : (regs : List ℕ) (pc rd v : ℕ) → IsRegisters regs → IsPc pc → v < 2 ^ 32 → IsEffect (takes regs pc rd v)
 effect-takes regs pc rd v h p q = (registers-written regs rd v h q, pc-next pc p)
@@ -180,9 +184,11 @@ effect-valid (Jalr rd rs1 imm) regs pc v h p = let e = small-plus (reg regs rs1)
 effect-valid (Branch c rs1 rs2 imm) regs pc v h p =
     effect-choice (holds c (reg regs rs1) (reg regs rs2)) _ _ (effect-taken regs (plus pc imm) h (small-plus pc imm)) (h, pc-next pc p)
 effect-valid (Load width rd rs1 imm) regs pc v h p =
-    effect-choice (plus (reg regs rs1) imm % load_size width == 0) (Loads rs1 (plus (reg regs rs1) imm) width rd) (Faults 4 (plus (reg regs rs1) imm)) tt (lit< tt)
+    effect-choice (plus (reg regs rs1) imm % load_size width == 0) (Loads rs1 (plus (reg regs rs1) imm) width rd)
+    (Faults 4 (plus (reg regs rs1) imm)) tt (lit< tt)
 effect-valid (Store width rs1 rs2 imm) regs pc v h p =
-    effect-choice (plus (reg regs rs1) imm % store_size width == 0) (Stores rs1 (plus (reg regs rs1) imm) (store_size width) (reg regs rs2)) (Faults 6 (plus (reg regs rs1) imm)) tt (lit< tt)
+    effect-choice (plus (reg regs rs1) imm % store_size width == 0) (Stores rs1 (plus (reg regs rs1) imm) (store_size width) (reg regs rs2))
+    (Faults 6 (plus (reg regs rs1) imm)) tt (lit< tt)
 effect-valid (OpImm op rd rs1 imm) regs pc v h p =
     effect-takes regs pc rd _ h p (small-imm op (reg regs rs1) imm (h.small rs1) (operand-small op imm v.2))
 effect-valid (Op op rd rs1 rs2) regs pc v h p =

@@ -21,8 +21,10 @@ pub run-add : (schedule : Schedule) (n m : ℕ) (s : State) → run schedule (n 
 run-add schedule zero m s = let e : 0 + m ≡ m = omega arith in rw e refl
 run-add schedule (suc n) m s =
     let e : suc n + m ≡ suc (n + m) = omega arith in
-    elim (is_stopped schedule s) as (λ b. is_stopped schedule s ≡ b → run schedule (suc n + m) s ≡ run schedule m (run schedule (suc n) s)) [
-      | true ↦ λ t. run-stopped schedule (suc n + m) s t ∙ sym (ap (run schedule m) (run-stopped schedule (suc n) s t) ∙ run-stopped schedule m s t)
+    elim (is_stopped schedule s) as (λ b. is_stopped schedule s ≡ b
+    → run schedule (suc n + m) s ≡ run schedule m (run schedule (suc n) s)) [
+      | true ↦ λ t. run-stopped schedule (suc n + m) s t ∙ sym (ap (run schedule m) (run-stopped schedule (suc n) s t)
+          ∙ run-stopped schedule m s t)
       | false ↦ λ f. ap (λ k. run schedule k s) e ∙ run-going schedule (n + m) s f
           ∙ run-add schedule n m (turn s (hart_of schedule s.core)) ∙ ap (run schedule m) (sym (run-going schedule n s f))
     ] refl

@@ -1,4 +1,5 @@
--- Small states for the worked examples: 64 words, packed tables of few frames, modules with their grants and gives, and harts as they stand.
+-- Small states for the worked examples: 64 words, packed tables of few frames, modules with their grants and gives, and harts as they
+-- stand.
 use Rattle.std.specs.Prelude.{ℕ, Bool, List, [], ◌∷◌, flat_map, fold, replicate, slice_set, Some, None}
 use Rattle.std.specs.Prelude.{map as list_map}
 use Rattle.mx_words.specs.declared.perm.Perm.{Perm}

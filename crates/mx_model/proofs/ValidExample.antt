@@ -1,6 +1,8 @@
--- A small flat state that is valid: 17 words; two modules with stack areas, of which the first has a heap area with a live block; a call gate and a
+-- A small flat state that is valid: 17 words; two modules with stack areas, of which the first has a heap area with a live block; a call
+-- gate and a
 -- return gate; and two harts, of which the first waits on a grant that the second has heard, and the second is inside a call.
-use Rattle.std.proofs.Common.{◌≡◌, ◌≢◌, ℕ, zero, suc, ◌<◌, true, false, nat_lt, ◌&&◌, List, [], ◌∷◌, ◌++◌, get_or, replicate, refl, arith, lit<, lit≤}
+use Rattle.std.proofs.Common.{◌≡◌, ◌≢◌, ℕ, zero, suc, ◌<◌, true, false, nat_lt, ◌&&◌, List, [], ◌∷◌, ◌++◌, get_or, replicate, refl, arith}
+use Rattle.std.proofs.Common.{lit<, lit≤}
 use Rattle.std.specs.List.{list_all}
 use Rattle.std.proofs.lemmas.Bool.{ltb-true}
 use Rattle.mx_words.specs.declared.perm.Perm.TheVariants as P
@@ -18,10 +20,11 @@ use Rattle.mx_model.proofs.ValidCaches.{cache-none}
 -- numbers below a bound, by computation
 below-at : (bound : ℕ) (xs : List ℕ) → 0 < bound → list_all (λ x. nat_lt x bound) xs ≡ true → (i : ℕ) → get_or xs i 0 < bound
 below-at bound [] p e i = p
-below-at bound (x ∷ xs) p e i = elim (nat_lt x bound) as (λ b. nat_lt x bound ≡ b → (b && list_all (λ y. nat_lt y bound) xs) ≡ true → get_or (x ∷ xs) i 0 < bound) [
-  | true ↦ λ t f. elim i as (λ j. get_or (x ∷ xs) j 0 < bound) [ zero ↦ ltb-true x bound t | suc j ↦ below-at bound xs p f j ]
-  | false ↦ λ t f. absurd (let q : ⊥ = cc in q)
-] refl e
+below-at bound (x ∷ xs) p e i = elim (nat_lt x bound) as (λ b. nat_lt x bound ≡ b → (b && list_all (λ y. nat_lt y bound) xs) ≡ true
+    → get_or (x ∷ xs) i 0 < bound) [
+      | true ↦ λ t f. elim i as (λ j. get_or (x ∷ xs) j 0 < bound) [ zero ↦ ltb-true x bound t | suc j ↦ below-at bound xs p f j ]
+      | false ↦ λ t f. absurd (let q : ⊥ = cc in q)
+    ] refl e
 
 abbrev first : Module
 first = record {
@@ -77,7 +80,8 @@ core = record {
 abbrev pub small : Flat
 small = record {
   core = core;
-  maps = (replicate 4 P.ExecuteRead ++ replicate 1 P.None ++ replicate 2 P.ReadWrite ++ replicate 1 P.None ++ replicate 4 P.ReadWrite ++ replicate 5 P.None)
+  maps = (replicate 4 P.ExecuteRead ++ replicate 1 P.None ++ replicate 2 P.ReadWrite ++ replicate 1 P.None ++ replicate 4 P.ReadWrite
+      ++ replicate 5 P.None)
       ∷ (replicate 12 P.None ++ replicate 2 P.ReadWrite ++ replicate 2 P.None ++ replicate 1 P.ExecuteRead) ∷ [];
   owners = replicate 12 1 ++ replicate 2 2 ++ replicate 2 0 ++ 2 ∷ [];
 }

@@ -1,5 +1,6 @@
 -- A turn keeps a valid flat state valid.
-use Rattle.std.proofs.Common.{◌≡◌, ℕ, zero, suc, ◌+◌, ◌-◌, ◌*◌, ◌≤◌, Bool, true, false, not, cond, List, [], ◌∷◌, length, get_or, refl, sym, ◌∙◌, ap, subst, Option, Some, None, arith}
+use Rattle.std.proofs.Common.{◌≡◌, ℕ, zero, suc, ◌+◌, ◌-◌, ◌*◌, ◌≤◌, Bool, true, false, not, cond, List, [], ◌∷◌, length, get_or, refl, sym}
+use Rattle.std.proofs.Common.{◌∙◌, ap, subst, Option, Some, None, arith}
 use Rattle.std.specs.Prelude.{IfSome, slice_index}
 use Rattle.std.specs.List.{AllByRecursion, list_all}
 use Rattle.std.proofs.lemmas.Bool.{ltb-false, leb-true, not-false}
@@ -18,7 +19,8 @@ use Rattle.mx_model.specs.declared.values.Call.{Call}
 use Rattle.mx_model.specs.Checks.{arg, looked_all}
 use Rattle.mx_model.specs.Reads.{Reads, Change, flat_reads, map_in}
 use Rattle.mx_model.specs.Run.{flat_turn, flat_made, maps_after, owners_after}
-use Rattle.mx_model.specs.Serve.{Served, Service, Transfer, judged, answers, serve, served_by, ended, write_from, exchange_from, alloc_from, write_looks, write_words, may_read, bytes_at, look_of, arg_word}
+use Rattle.mx_model.specs.Serve.{Served, Service, Transfer, judged, answers, serve, served_by, ended, write_from, exchange_from, alloc_from}
+use Rattle.mx_model.specs.Serve.{write_looks, write_words, may_read, bytes_at, look_of, arg_word}
 use Rattle.mx_model.specs.State.{Core, Flat, Hart}
 use Rattle.mx_model.specs.Turn.{Action, Decided, acted, asked, enacted, turned}
 use Rattle.mx_model.specs.Valid.{IsFlat}
@@ -53,7 +55,10 @@ give-exchange_from P r c call (Some n) = record { each = tt }
 give-exchange_from P r c call None =
     let looked = looked_all r call.hart (look_of call.domain (arg_word call) ∷ []) c in
     give-judged P looked (first_row ((not (allows (r.perm call.domain (arg_word call)) A.Write), 12) ∷ []))
-    (record (answers (record looked { ram = put_at c.ram (4 * arg_word call) 4 (arg call 1) }) 0) { a1 = Some (number_at c.ram (4 * arg_word call) 4) })
+    (record (answers (record looked { ram = put_at c.ram (4 * arg_word call) 4 (arg call 1) }) 0) {
+      a1 =
+          Some (number_at c.ram (4 * arg_word call) 4);
+    })
     (λ e. record { each = tt })
 
 give-alloc_from : (P : Give → Type 0) (c : Core) (call : Call) (first : ℕ) (o : Option ℕ) → Gives P (alloc_from c call first o)
@@ -73,10 +78,12 @@ give-ended P c call s p = search (arith, call.hart)
 give-serve : (r : Reads) (c : Core) (call : Call) → IfSome (serve r c call).give (IsGive r (length c.modules))
 give-serve r c call = search (arith, give-ended, give-served_by)
 
-give-asked : (r : Reads) (c : Core) (h : ℕ) (hart : Hart) (call : Call) (b : Bool) → IfSome (asked r c h hart call b).give (IsGive r (length c.modules))
+give-asked : (r : Reads) (c : Core) (h : ℕ) (hart : Hart) (call : Call) (b : Bool)
+    → IfSome (asked r c h hart call b).give (IsGive r (length c.modules))
 give-asked r c h hart call x = grind (arith, give-serve)
 
-give-acted : (r : Reads) (c : Core) (h : ℕ) (hart : Hart) (action : Action) → IfSome (acted r c h hart action).give (IsGive r (length c.modules))
+give-acted : (r : Reads) (c : Core) (h : ℕ) (hart : Hart) (action : Action)
+    → IfSome (acted r c h hart action).give (IsGive r (length c.modules))
 give-acted r c h hart x = grind (arith, give-serve, give-asked)
 
 give-enacted : (r : Reads) (c : Core) (h : ℕ) (d : Decided) → IfSome (enacted r c h d).give (IsGive r (length c.modules))
@@ -94,7 +101,8 @@ length-maps_after : (maps : List (List Perm)) (o : Option Change) → length (ma
 length-maps_after maps None = refl
 length-maps_after maps (Some c) = length-each_from (λ d m. changed_map c.first c.count (c.given d) m) 1 maps
 
-whole-each_from : (size first count d : ℕ) (given : ℕ → Option Perm) (maps : List (List Perm)) → AllByRecursion (λ (m : List Perm). length m ≡ size) maps →
+whole-each_from : (size first count d : ℕ) (given : ℕ → Option Perm) (maps : List (List Perm))
+    → AllByRecursion (λ (m : List Perm). length m ≡ size) maps →
     AllByRecursion (λ (m : List Perm). length m ≡ size) (each_from (λ d m. changed_map first count (given d) m) d maps)
 whole-each_from size first count d given [] p = tt
 whole-each_from size first count d given (m ∷ ms) p =
@@ -116,7 +124,8 @@ small-laid_from most i e [] p q j = p j
 small-laid_from most i e (x ∷ xs) p q zero = elim (covers e.first e.count i) as (λ b. cond b e.value x ≤ most) [ true ↦ q | false ↦ p 0 ]
 small-laid_from most i e (x ∷ xs) p q (suc j) = small-laid_from most (i + 1) e xs (λ k. p (suc k)) q j
 
-small-owners_after : (r : Reads) (most : ℕ) (owners : List ℕ) (o : Option Give) → ((i : ℕ) → slice_index owners i ≤ most) → IfSome o (IsGive r most) →
+small-owners_after : (r : Reads) (most : ℕ) (owners : List ℕ) (o : Option Give) → ((i : ℕ) → slice_index owners i ≤ most)
+    → IfSome o (IsGive r most) →
     (i : ℕ) → slice_index (owners_after owners o) i ≤ most
 small-owners_after r most owners None p q = p
 small-owners_after r most owners (Some g) p q = small-laid_from most 0 g owners p q.0

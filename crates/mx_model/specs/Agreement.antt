@@ -27,7 +27,8 @@ standing (Halted code) = Ended
 abbrev pub target_at : Core → ℕ → ℕ → Option ℕ
 target_at c d word = gate_target c.gates d word
 
--- two states, each with what it answers of rights, agree for hart h: the hart has the same standing, pc, registers and domain d; d has the same
+-- two states, each with what it answers of rights, agree for hart h: the hart has the same standing, pc, registers and domain d; d has the
+-- same
 -- permission on every word; d is dead in both or in neither; the gates of d are the same pairs of word and target; and the bytes of
 -- each word that d may read are the same
 pub record Agrees (r : Reads) (c : Core) (q : Reads) (e : Core) (h : ℕ) : Type 0 where

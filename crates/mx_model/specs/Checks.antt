@@ -1,6 +1,7 @@
 -- Checks of words, hearing, and the caches. A turn looks at words at places; what its caches keep follows from these looks.
 -- The rules: docs/MACHINE.md, "Announced calls" and "Checks and counts".
-use Rattle.std.specs.Prelude.{ℕ, Bool, true, false, ◌==◌, List, [], ◌∷◌, fold, filter_map, slice_index, slice_set, if◌then◌else◌, Option, None}
+use Rattle.std.specs.Prelude.{ℕ, Bool, true, false, ◌==◌, List, [], ◌∷◌, fold, filter_map, slice_index, slice_set, if◌then◌else◌, Option}
+use Rattle.std.specs.Prelude.{None}
 use Rattle.std.specs.Prelude.{map as list_map}
 use Rattle.std.specs.List.{list_all, list_any, enumerate_from}
 use Rattle.std.specs.Option.{option_map_or}

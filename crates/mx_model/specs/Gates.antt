@@ -1,6 +1,7 @@
 -- Gates as a list with at most one per domain and word, and frames from the bottom of a cross stack to its top.
 -- The rules: docs/MACHINE.md, "Gates".
-use Rattle.std.specs.Prelude.{◌≡◌, ℕ, ◌-◌, Bool, false, not, if◌then◌else◌, ◌==◌, ◌&&◌, nat_le, List, [], ◌∷◌, ◌++◌, length, take, reverse, filter, find, slice_index, Option, Some, None, option_map}
+use Rattle.std.specs.Prelude.{◌≡◌, ℕ, ◌-◌, Bool, false, not, if◌then◌else◌, ◌==◌, ◌&&◌, nat_le, List, [], ◌∷◌, ◌++◌, length, take, reverse}
+use Rattle.std.specs.Prelude.{filter, find, slice_index, Option, Some, None, option_map}
 use Rattle.std.specs.Option.{option_map_or}
 use Rattle.std.specs.List.{AllPairs, list_any, last_or}
 pub use Rattle.mx_words.specs.Limits.{most_gates, most_frames}

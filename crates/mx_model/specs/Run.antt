@@ -1,6 +1,7 @@
 -- Turns of the abstract machine and of its flat states, and runs by a schedule.
 -- The rules: docs/MACHINE.md, "Which hart makes a turn".
-use Rattle.std.specs.Prelude.{option_to_list, ℕ, zero, suc, ◌/◌, ◌%◌, Bool, true, false, ◌||◌, nat_le, List, ◌++◌, length, slice_index, Option, Some, None}
+use Rattle.std.specs.Prelude.{option_to_list, ℕ, zero, suc, ◌/◌, ◌%◌, Bool, true, false, ◌||◌, nat_le, List, ◌++◌, length, slice_index}
+use Rattle.std.specs.Prelude.{Option, Some, None}
 use Rattle.std.specs.List.{list_all}
 use Rattle.mx_words.specs.declared.perm.Perm.{Perm}
 use Rattle.mx_words.specs.Changes.{changed_maps, granted_all}

@@ -1,6 +1,7 @@
 -- The supervisor's calls. For each: its tests, as the table lists them (Table), judged where the call takes effect, and its one effect.
 -- The rules: docs/MACHINE.md, "Supervisor calls".
-use Rattle.std.specs.Prelude.{ℕ, ◌+◌, ◌-◌, ◌*◌, ◌%◌, ◌^◌, Bool, true, false, not, ◌==◌, ◌&&◌, ◌||◌, nat_lt, List, [], ◌∷◌, take, drop, if◌then◌else◌, Option, Some, None, unwrap_or}
+use Rattle.std.specs.Prelude.{ℕ, ◌+◌, ◌-◌, ◌*◌, ◌%◌, ◌^◌, Bool, true, false, not, ◌==◌, ◌&&◌, ◌||◌, nat_lt, List, [], ◌∷◌, take, drop}
+use Rattle.std.specs.Prelude.{if◌then◌else◌, Option, Some, None, unwrap_or}
 use Rattle.std.specs.Prelude.{map as list_map}
 use Rattle.std.specs.List.{list_all, range_with_len, prefix_len}
 use Rattle.mx_words.specs.declared.perm.Perm.TheVariants as P
@@ -16,7 +17,9 @@ use Rattle.mx_model.specs.declared.values.Call.{Call}
 use Rattle.mx_model.specs.declared.values.Gate.{Gate}
 use Rattle.mx_model.specs.Checks.{Look, arg, call_range, drops, looked_all}
 use Rattle.mx_model.specs.Gates.{with_gate, without_gate}
-pub use Rattle.mx_model.specs.Table.{Service, Exit, Write, Grant, RevokeAll, Transfer, Alloc, Free, AddGate, RemoveGate, AddReturnGate, Query, Self, Exchange, Unknown, service, arg_word, write_words, change_of, to_one, none_but, own_alone, none_at_all}
+pub use Rattle.mx_model.specs.Table.{Service, Exit, Write, Grant, RevokeAll, Transfer, Alloc, Free, AddGate, RemoveGate, AddReturnGate}
+pub use Rattle.mx_model.specs.Table.{Query, Self, Exchange, Unknown, service, arg_word, write_words, change_of, to_one, none_but, own_alone}
+pub use Rattle.mx_model.specs.Table.{none_at_all}
 use Rattle.mx_model.specs.Table.{sight_of, tests}
 use Rattle.mx_model.specs.Reads.{Reads, Change}
 use Rattle.mx_model.specs.State.{Core, module_at, with_module}

@@ -1,13 +1,14 @@
 -- The table of the supervisor's calls: what a call is judged by, and the tests of each in order with their codes.
 -- The rules: docs/MACHINE.md, "Supervisor calls".
-use Rattle.std.specs.Prelude.{ℕ, ◌+◌, ◌-◌, ◌*◌, ◌/◌, ◌%◌, Bool, true, not, ◌==◌, ◌&&◌, ◌||◌, nat_lt, nat_le, List, [], ◌∷◌, length, slice_index_or, if◌then◌else◌, Option, Some, None, unwrap_or, is_none}
+use Rattle.std.specs.Prelude.{ℕ, ◌+◌, ◌-◌, ◌*◌, ◌/◌, ◌%◌, Bool, true, not, ◌==◌, ◌&&◌, ◌||◌, nat_lt, nat_le, List, [], ◌∷◌, length}
+use Rattle.std.specs.Prelude.{slice_index_or, if◌then◌else◌, Option, Some, None, unwrap_or, is_none}
 use Rattle.std.specs.List.{list_all, range_with_len}
 use Rattle.mx_words.specs.declared.perm.Perm.{Perm}
 use Rattle.mx_words.specs.declared.perm.Perm.TheVariants as P
 use Rattle.mx_words.specs.declared.perm.Access.TheVariants as A
 use Rattle.mx_words.specs.FirstFit.{Area, place, block_words, most_blocks}
 use Rattle.mx_words.specs.FirstRow.{Row}
-use Rattle.mx_words.specs.Limits.{most_bytes}
+use Rattle.mx_words.specs.Limits.{most_written}
 use Rattle.mx_words.specs.Newest.{Give}
 use Rattle.mx_words.specs.Ranges.{ram_base, in_ram, is_range, range_words, overlaps}
 use Rattle.mx_words.specs.Rights.{allows, from_number}
@@ -47,7 +48,8 @@ service n =
 abbrev pub arg_word : Call → ℕ
 arg_word call = (arg call 0 - ram_base) / 4
 
--- what a change gives each module (a change is asked for modules alone): a permission for one of them; none for all but the caller; read-write
+-- what a change gives each module (a change is asked for modules alone): a permission for one of them; none for all but the caller;
+-- read-write
 -- for the caller and none for the others; none for all
 abbrev pub to_one : ℕ → Perm → ℕ → Option Perm
 to_one one p d = if d == one then Some p else None
@@ -171,7 +173,7 @@ given v c = record { first = (range v c).0; count = (range v c).1; value = arg c
 abbrev pub tests : Service → Sight → Call → List (Row ℕ)
 tests Exit v c = (c.nested, 10) ∷ []
 tests Write v c =
-    (nat_lt most_bytes (arg c 1), 11)
+    (nat_lt most_written (arg c 1), 11)
     ∷ (bytes_outside v c, 1)
     ∷ (not (list_all (may_read v c.domain) (write_words c)), 12) ∷ []
 tests Grant v c =

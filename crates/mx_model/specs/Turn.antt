@@ -1,6 +1,7 @@
 -- One turn of one hart. First it is decided what happens, from a few readings of the state; then it is done.
 -- The rules: docs/MACHINE.md, "One turn", "Faults" and "Gates".
-use Rattle.std.specs.Prelude.{ℕ, ◌+◌, ◌-◌, ◌*◌, ◌%◌, Bool, true, false, not, ◌==◌, ◌&&◌, ◌||◌, nat_lt, nat_le, List, [], ◌∷◌, ◌++◌, length, zip, fold, slice_set, if◌then◌else◌, Option, Some, None, unwrap_or}
+use Rattle.std.specs.Prelude.{ℕ, ◌+◌, ◌-◌, ◌*◌, ◌%◌, Bool, true, false, not, ◌==◌, ◌&&◌, ◌||◌, nat_lt, nat_le, List, [], ◌∷◌, ◌++◌, length}
+use Rattle.std.specs.Prelude.{zip, fold, slice_set, if◌then◌else◌, Option, Some, None, unwrap_or}
 use Rattle.std.specs.Prelude.{map as list_map}
 use Rattle.std.specs.Option.{option_map_or}
 use Rattle.mx_words.specs.declared.perm.Perm.{Perm}
@@ -23,7 +24,8 @@ use Rattle.mx_model.specs.declared.values.Note.TheVariants as N
 use Rattle.mx_model.specs.declared.values.TurnKind.{TurnKind}
 use Rattle.mx_model.specs.declared.values.TurnKind.TheVariants as T
 use Rattle.mx_model.specs.Checks.{Look, hears, is_halted, is_ready, looks_at, looked_all, empties_places}
-use Rattle.mx_model.specs.Effect.{Effect, Goes, Faults, Loads, Stores, Calls, Jumps, effect, by_target, reg, written, next, load_size, loaded}
+use Rattle.mx_model.specs.Effect.{Effect, Goes, Faults, Loads, Stores, Calls, Jumps, effect, by_target, reg, written, next, load_size}
+use Rattle.mx_model.specs.Effect.{loaded}
 use Rattle.mx_model.specs.Gates.{call_gate, is_return, most_frames, top, below_top, nearest}
 use Rattle.mx_model.specs.Reads.{Reads, Change}
 use Rattle.mx_model.specs.Serve.{Served, serve}
@@ -222,7 +224,8 @@ crossed c h hart target =
       status = Running;
     }) c)
 
--- the top frame is given up: the hart goes on in the caller at the return address with the fifteen registers restored, and the places are emptied
+-- the top frame is given up: the hart goes on in the caller at the return address with the fifteen registers restored, and the places are
+-- emptied
 abbrev pub over_frame : Core → ℕ → Hart → Frame → List ℕ → Core
 over_frame c h hart frame regs =
     empties_places h (with_hart h (record hart {
@@ -278,7 +281,8 @@ done h hart s = record (made T.Called (
 abbrev pub served : Reads → Core → ℕ → Hart → Call → Made
 served r c h hart call = done h hart (serve r c call)
 
--- an announced call waits until the other harts have heard it; where they are all halted, or for another call, it is served at once (case 8)
+-- an announced call waits until the other harts have heard it; where they are all halted, or for another call, it is served at once (case
+-- 8)
 abbrev pub asked : Reads → Core → ℕ → Hart → Call → Bool → Made
 asked r c h hart call true = served r c h hart call
 asked r c h hart call false =

@@ -1,30 +1,30 @@
 //! What a turn adds to the console and to the report.
 ghost use Rattle.std.specs.Prelude.{◌≡◌, ℕ, ◌+◌, ◌<◌, ◌≤◌, [], ◌∷◌, ◌++◌, length, slice_index};
-ghost use Rattle.mx_words.specs.Limits.{most_bytes};
+ghost use Rattle.mx_words.specs.Limits.{most_written};
 ghost use Rattle.mx_model.specs.Events.{no_events, Events};
 
 use crate::Note;
 use arrayvec::ArrayVec;
-use mx_words::MOST_BYTES;
+use mx_words::MOST_WRITTEN;
 use std::marker::Model;
 
 /// Up to 4096 console bytes and at most one note.
 #[derive(Drop)]
 pub struct Events {
-    bytes: ArrayVec<u8, MOST_BYTES>,
+    bytes: ArrayVec<u8, MOST_WRITTEN>,
     note: Option<Note>,
 }
 
 impl Model for Events {
     ghost use Rattle.std.specs.Prelude.{◌≤◌, length};
-    ghost use Rattle.mx_words.specs.Limits.{most_bytes};
+    ghost use Rattle.mx_words.specs.Limits.{most_written};
     ghost use Rattle.mx_model.specs.Events.{Events as EventsOf};
 
     ghost Value = { EventsOf };
 
     ghost view = { λ e. record { bytes = e.bytes.items; note = e.note } };
 
-    ghost invariant = { λ e. length e.bytes.items ≤ most_bytes };
+    ghost invariant = { λ e. length e.bytes.items ≤ most_written };
 }
 
 impl Events {
@@ -48,7 +48,7 @@ impl Events {
 
     /// Appends a byte. Fewer than 4096 are held.
     pub fn push(&mut self, byte: u8)
-        requires { length self.old.bytes < most_bytes }
+        requires { length self.old.bytes < most_written }
         ensures { self.new ≡ record self.old { bytes = self.old.bytes ++ byte ∷ [] } }
     {
         self.bytes.push(byte);
@@ -64,7 +64,7 @@ impl Events {
     /// The number of bytes, at most 4096.
     pub fn len(&self) -> u32
         ensures count { result ≡ length self.now.bytes }
-        ensures most { result ≤ most_bytes }
+        ensures most { result ≤ most_written }
     {
         self.bytes.len() as u32
     }

@@ -6,7 +6,8 @@ ghost use Rattle.mx_model.specs.State.{State, Flat, Core, flat};
 ghost use Rattle.mx_model.specs.Turn.{turned};
 ghost use Rattle.mx_model.specs.Valid.{IsValid, IsFlat};
 
-/// The flat state after a turn is the turn of the flat state, and what a turn adds to console and notes is a function of the flat
+/// The flat state after a turn is the turn of the flat state, and what a turn adds to console and notes is a function
+/// of the flat
 /// state too: for every state and every hart.
 pub fn flat_of_a_turn()
     ensures state { (s : State) (h : ℕ) → flat (turn s h) ≡ flat_turn (flat s) h }

@@ -1,4 +1,5 @@
-//! The abstract machine: plain values that its layers share, and in `specs/` the state, the turn, the supervisor's calls and the run.
+//! The abstract machine: plain values that its layers share, and in `specs/` the state, the turn, the supervisor's
+//! calls and the run.
 #![tactic(auto)]
 
 mod events;

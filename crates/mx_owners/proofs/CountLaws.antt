@@ -1,5 +1,6 @@
 -- As many runs are stored as the owners of all words have.
-use Rattle.std.proofs.Common.{ℕ, zero, suc, ◌≡◌, ◌≢◌, ◌+◌, ◌-◌, ◌<◌, ◌≤◌, Bool, true, false, not, ◌||◌, List, [], ◌∷◌, length, get_or, refl, sym, ◌∙◌, ap, arith}
+use Rattle.std.proofs.Common.{ℕ, zero, suc, ◌≡◌, ◌≢◌, ◌+◌, ◌-◌, ◌<◌, ◌≤◌, Bool, true, false, not, ◌||◌, List, [], ◌∷◌, length, get_or, refl}
+use Rattle.std.proofs.Common.{sym, ◌∙◌, ap, arith}
 use Rattle.std.specs.Prelude.{◌==◌}
 use Rattle.std.proofs.lemmas.Bool.{eq-eqb, ne_eqb, lt-ltb, le-ltb}
 use Rattle.mx_words.specs.Counting.{count_below}
@@ -35,7 +36,8 @@ count_fill low high before [] f h told edge = let e : high ≡ low = omega (arit
 count_fill low high before (r ∷ rs) f h told edge =
     let reach : r.end ≤ high = Fill-le r.end high r.owner rs h.2 in
     let here : (w : ℕ) → low ≤ w → w < r.end → f w ≡ r.owner = λ w le lt. told w le (omega arith) ∙ (rw (lt-ltb w r.end lt) refl) in
-    let rest : (w : ℕ) → r.end ≤ w → w < high → f w ≡ owner_in rs w = λ w le lt. told w (omega (arith, h.0)) lt ∙ (rw (le-ltb w r.end le) refl) in
+    let rest : (w : ℕ) → r.end ≤ w → w < high → f w ≡ owner_in rs w = λ w le lt. told w (omega (arith, h.0)) lt
+    ∙ (rw (le-ltb w r.end le) refl) in
     let last : r.end - 1 < r.end = omega (arith, h.0) in
     let first : starts f low ≡ true = starts_here f low (λ some e. h.1 some (sym (here low (omega arith) h.0) ∙ e ∙ edge some)) in
     let one : count_below (low + 1) (starts f) ≡ count_below low (starts f) + 1 = count_below_yes low (starts f) first in

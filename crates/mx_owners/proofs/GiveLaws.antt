@@ -1,5 +1,6 @@
 -- The runs after a give are those of the owners with the give laid over them.
-use Rattle.std.proofs.Common.{ℕ, zero, suc, ◌≡◌, ◌≢◌, ◌+◌, ◌-◌, ◌<◌, ◌≤◌, ⊎_elim, true, false, List, [], ◌∷◌, ◌++◌, length, take, drop, replicate, refl, sym, ◌∙◌, ap, subst, arith, length-append, length-drop}
+use Rattle.std.proofs.Common.{ℕ, zero, suc, ◌≡◌, ◌≢◌, ◌+◌, ◌-◌, ◌<◌, ◌≤◌, ⊎_elim, true, false, List, [], ◌∷◌, ◌++◌, length, take, drop}
+use Rattle.std.proofs.Common.{replicate, refl, sym, ◌∙◌, ap, subst, arith, length-append, length-drop}
 use Rattle.std.specs.Prelude.{◌==◌, nat_lt}
 use Rattle.std.proofs.lemmas.Bool.{cases_lt, cases_Bool, ne_eqb, eqb-true, eqb-false, lt-ltb, le-ltb}
 use Rattle.std.proofs.lemmas.List.{drop_more, drop_all, length_push, length-replicate, get_or-replicate}
@@ -7,8 +8,10 @@ use Rattle.mx_words.specs.Newest.{Laid, laid, laid_at}
 use Rattle.mx_words.proofs.CountingLaws.{length-list_below, list_below-at, list_below_is}
 use Rattle.mx_words.proofs.OverlayLaws.{laid_at_in, laid_at_below, laid_at_behind, length-laid, laid-at}
 use Rattle.mx_owners.specs.declared.runs.Run.{Run}
-use Rattle.mx_owners.specs.OwnerRuns.{Fill, owner_in, owners_in, run_at, no_run, place_of, runs_before, goes_on, end_behind, place_behind, given}
-use Rattle.mx_owners.proofs.FillLaws.{end_of, last_owner, Fill-append, Around, around, owner_in-left, owner_in-right, owner_before, owner_from, owner_within, owner_behind}
+use Rattle.mx_owners.specs.OwnerRuns.{Fill, owner_in, owners_in, run_at, no_run, place_of, runs_before, goes_on, end_behind, place_behind}
+use Rattle.mx_owners.specs.OwnerRuns.{given}
+use Rattle.mx_owners.proofs.FillLaws.{end_of, last_owner, Fill-append, Around, around, owner_in-left, owner_in-right, owner_before}
+use Rattle.mx_owners.proofs.FillLaws.{owner_from, owner_within, owner_behind}
 use Rattle.mx_owners.proofs.PlaceLaws.{place-le, ends_behind, place_within, begins_before, place-mono}
 
 end_of-push : (low : ℕ) (xs : List Run) (r : Run) → end_of low (xs ++ r ∷ []) ≡ r.end
@@ -83,7 +86,8 @@ module _ (rs : List Run) (high : ℕ) (fill : Fill 0 high 0 rs) (owner : ℕ) wh
             (λ (low : w < end_of 0 xs). owner_in-left 0 0 xs (cut ∷ []) w a.left low (omega arith) ∙ told w low)
             (λ (up : end_of 0 xs ≤ w).
             let lw : w < suc n = omega (arith, reach) in
-            owner_in-right 0 0 xs (cut ∷ []) w a.left up ∙ (rw (lt-ltb w (suc n) lw) refl) ∙ sym (owner_within 0 high 0 rs i a w up (omega arith)))
+            owner_in-right 0 0 xs (cut ∷ []) w a.left up ∙ (rw (lt-ltb w (suc n) lw) refl)
+            ∙ sym (owner_within 0 high 0 rs i a w up (omega arith)))
             (cases_lt w (end_of 0 xs));
         rest = λ w l g. absurd (omega (arith, reach));
         differs = λ some e. eqb-false r.owner owner f (sym (e ∙ last_owner-push 0 xs cut));
@@ -91,7 +95,8 @@ module _ (rs : List Run) (high : ℕ) (fill : Fill 0 high 0 rs) (owner : ℕ) wh
       }))
       (cases_Bool (r.owner == owner))
 
-  pub behind_give : (behind : ℕ) → behind ≤ high → Behind rs high owner behind (end_behind rs owner behind) (drop (place_behind rs owner behind) rs)
+  pub behind_give : (behind : ℕ) → behind ≤ high → Behind rs high owner behind (end_behind rs owner behind)
+      (drop (place_behind rs owner behind) rs)
   behind_give behind le = ⊎_elim
       (λ (within : place_of rs behind < length rs).
       let i : ℕ = place_of rs behind in
@@ -146,7 +151,8 @@ module _ (rs : List Run) (high : ℕ) (fill : Fill 0 high 0 rs) (owner : ℕ) wh
   given_fill first behind some le =
       let b : Before rs owner first (runs_before rs owner first) = before_give first (omega arith) in
       let e : Behind rs high owner behind (end_behind rs owner behind) (drop (place_behind rs owner behind) rs) = behind_give behind le in
-      Fill-append 0 high 0 (runs_before rs owner first) (record { end = end_behind rs owner behind; owner = owner } ∷ drop (place_behind rs owner behind) rs) b.fill
+      Fill-append 0 high 0 (runs_before rs owner first) (record { end = end_behind rs owner behind; owner = owner }
+      ∷ drop (place_behind rs owner behind) rs) b.fill
       (omega (arith, b.reach, e.reach), b.differs, e.fill)
 
   pub given_few : (first behind : ℕ) → first < behind → behind ≤ high → length (given rs owner first behind) ≤ length rs + 2
@@ -158,7 +164,8 @@ module _ (rs : List Run) (high : ℕ) (fill : Fill 0 high 0 rs) (owner : ℕ) wh
         b.few,
         e.few,
         place-mono 0 high 0 rs first behind (omega arith),
-        length-append (runs_before rs owner first) (record { end = end_behind rs owner behind; owner = owner } ∷ drop (place_behind rs owner behind) rs),
+        length-append (runs_before rs owner first) (record { end = end_behind rs owner behind; owner = owner }
+            ∷ drop (place_behind rs owner behind) rs),
       )
 
   given_at : (first count w : ℕ) → 0 < count → first + count ≤ high → w < high →
@@ -174,7 +181,8 @@ module _ (rs : List Run) (high : ℕ) (fill : Fill 0 high 0 rs) (owner : ℕ) wh
       let r : Run = record { end = end; owner = owner } in
       ⊎_elim
       (λ (left : w < end_of 0 xs).
-      owner_in-left 0 0 xs (r ∷ ys) w b.fill left (omega arith) ∙ b.same w left ∙ sym (laid_at_below w (owner_in rs w) entry (omega (arith, b.reach))))
+      owner_in-left 0 0 xs (r ∷ ys) w b.fill left (omega arith) ∙ b.same w left
+      ∙ sym (laid_at_below w (owner_in rs w) entry (omega (arith, b.reach))))
       (λ (from : end_of 0 xs ≤ w). owner_in-right 0 0 xs (r ∷ ys) w b.fill from ∙ ⊎_elim
       (λ (within : w < end).
       let here : owner_in (r ∷ ys) w ≡ owner = rw (lt-ltb w end within) refl in
@@ -193,15 +201,19 @@ module _ (rs : List Run) (high : ℕ) (fill : Fill 0 high 0 rs) (owner : ℕ) wh
 
   -- the owners after a give
   pub given_owners : (first count : ℕ) → 0 < count → first + count ≤ high →
-      owners_in high (given rs owner first (first + count)) ≡ laid (record { first = first; count = count; value = owner }) (owners_in high rs)
+      owners_in high (given rs owner first (first + count)) ≡ laid (record { first = first; count = count; value = owner })
+      (owners_in high rs)
   given_owners first count some le =
       let entry : Laid ℕ = record { first = first; count = count; value = owner } in
       let old : length (owners_in high rs) ≡ high = length-list_below high (owner_in rs) in
-      list_below_is high (owner_in (given rs owner first (first + count))) (laid entry (owners_in high rs)) (length-laid entry (owners_in high rs) ∙ old)
+      list_below_is high (owner_in (given rs owner first (first + count))) (laid entry (owners_in high rs))
+      (length-laid entry (owners_in high rs) ∙ old)
       (λ w d lt. laid-at entry (owners_in high rs) w d (omega (arith, old))
       ∙ ap (λ z. laid_at w z entry) (list_below-at high w (owner_in rs) d lt) ∙ sym (given_at first count w some le lt))
 
 -- one run of the supervisor's
 pub new_owners : (words : ℕ) → owners_in words (record { end = words; owner = 0 } ∷ []) ≡ replicate words 0
-new_owners words = list_below_is words (owner_in (record { end = words; owner = 0 } ∷ [])) (replicate words 0) (length-replicate {A = ℕ} words 0)
-    (λ w d lt. let one : owner_in (record { end = words; owner = 0 } ∷ []) w ≡ 0 = rw (lt-ltb w words lt) refl in get_or-replicate {A = ℕ} words w 0 d lt ∙ sym one)
+new_owners words = list_below_is words (owner_in (record { end = words; owner = 0 } ∷ [])) (replicate words 0)
+    (length-replicate {A = ℕ} words 0)
+    (λ w d lt. let one : owner_in (record { end = words; owner = 0 } ∷ []) w ≡ 0 = rw (lt-ltb w words lt) refl in
+    get_or-replicate {A = ℕ} words w 0 d lt ∙ sym one)

@@ -33,7 +33,8 @@ place_within low high before rs w fill le lt = ⊎_elim
     (cases_lt (place_of rs w) (length rs))
 
 -- the run at the place begins at the word or before
-pub begins_before : (low high before : ℕ) (rs : List Run) (w : ℕ) → Fill low high before rs → low ≤ w → place_of rs w < length rs → end_of low (take (place_of rs w) rs) ≤ w
+pub begins_before : (low high before : ℕ) (rs : List Run) (w : ℕ) → Fill low high before rs → low ≤ w → place_of rs w < length rs
+    → end_of low (take (place_of rs w) rs) ≤ w
 begins_before low high before rs w fill le lt =
     let a : Around low high before rs (place_of rs w) = around low high before rs (place_of rs w) fill lt in
     end_most low w (take (place_of rs w) rs) le (λ k lk.

@@ -1,6 +1,8 @@
--- Inner: how the owners of all words are stored, as maximal runs of equal owner, each by the word after it. No contract of another crate cites this
+-- Inner: how the owners of all words are stored, as maximal runs of equal owner, each by the word after it. No contract of another crate
+-- cites this
 -- file; what owners mean is a list with one owner a word.
-use Rattle.std.specs.Prelude.{ℕ, ◌≡◌, ◌≢◌, ◌+◌, ◌-◌, ◌<◌, ◌≤◌, Bool, ◌==◌, ◌&&◌, nat_lt, List, [], ◌∷◌, ◌++◌, length, take, drop, slice_index_or, if◌then◌else◌}
+use Rattle.std.specs.Prelude.{ℕ, ◌≡◌, ◌≢◌, ◌+◌, ◌-◌, ◌<◌, ◌≤◌, Bool, ◌==◌, ◌&&◌, nat_lt, List, [], ◌∷◌, ◌++◌, length, take, drop}
+use Rattle.std.specs.Prelude.{slice_index_or, if◌then◌else◌}
 use Rattle.std.specs.List.{position_or_len}
 use Rattle.mx_words.specs.Counting.{list_below}
 use Rattle.mx_words.specs.Ranges.{most_words}

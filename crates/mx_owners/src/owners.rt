@@ -1,7 +1,8 @@
 //! The owner of each word of RAM, as runs.
 
 ghost use Rattle.std.specs.List.{list_all, range_with_len};
-ghost use Rattle.std.specs.Prelude.{◌≡◌, ◌≢◌, ℕ, ◌+◌, ◌<◌, ◌≤◌, ◌↔◌, ◌==◌, length, replicate, slice_index, IsTrue, IfOk, OnOk, OnErr, IsErr};
+ghost use Rattle.std.specs.Prelude.{◌≡◌, ◌≢◌, ℕ, ◌+◌, ◌<◌, ◌≤◌, ◌↔◌, ◌==◌, length, replicate, slice_index, IsTrue};
+ghost use Rattle.std.specs.Prelude.{IfOk, OnOk, OnErr, IsErr};
 
 use crate::runs::{Run, put_given, room, run_place};
 use mx_words::{MOST_OWNER_RUNS, NoMemory};
@@ -80,7 +81,8 @@ impl Owners {
         run.owner == domain && first + count <= run.end
     }
 
-    /// Gives a domain the words of a range that isn't empty and lies in RAM. `OwnersFull`, with nothing changed, exactly
+    /// Gives a domain the words of a range that isn't empty and lies in RAM. `OwnersFull`, with nothing changed,
+    /// exactly
     /// where all words would then form more than 4096 maximal runs of one owner.
     pub fn give(&mut self, domain: u32, first: u32, count: u32) -> Result<(), OwnersFull>
         requires some { 0 < count }

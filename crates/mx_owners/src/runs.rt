@@ -1,6 +1,7 @@
 //! Maximal runs of words with one owner, in the order of their addresses.
 
-ghost use Rattle.std.specs.Prelude.{◌≡◌, ℕ, ◌+◌, ◌-◌, ◌^◌, ◌<◌, ◌≤◌, ◌++◌, length, drop, [], vec_len, nat_le, if◌then◌else◌, IfOk};
+ghost use Rattle.std.specs.Prelude.{◌≡◌, ℕ, ◌+◌, ◌-◌, ◌^◌, ◌<◌, ◌≤◌, ◌++◌, length, drop, [], vec_len, nat_le};
+ghost use Rattle.std.specs.Prelude.{if◌then◌else◌, IfOk};
 ghost use Rattle.std.specs.Vec.{vec_capacity};
 ghost use Rattle.mx_words.specs.Runs.{most_owner_runs};
 ghost use Rattle.mx_owners.specs.OwnerRuns.{run_at, place_of, runs_before, goes_on, end_behind, place_behind, given};
@@ -41,7 +42,8 @@ pub fn run_place(runs: &[Run], word: u32) -> usize
     low
 }
 
-// The width where a run that ends at `end` ends at the word or before, else 0. Said by what a subtraction borrows, since the
+// The width where a run that ends at `end` ends at the word or before, else 0. Said by what a subtraction borrows,
+// since the
 // processor would guess at a choice.
 fn step(end: u32, word: u32, width: usize) -> usize
     requires { width < 2 ^ 32 }

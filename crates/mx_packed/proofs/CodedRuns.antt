@@ -1,5 +1,6 @@
 -- The run of a word, read from the codes of its line.
-use Rattle.std.proofs.Common.{◌≡◌, ◌≢◌, ℕ, zero, suc, ◌+◌, ◌-◌, ◌/◌, ◌%◌, ◌<◌, ◌≤◌, ◌⊎◌, inl, inr, false, List, length, drop, refl, sym, ap, ◌∙◌, arith}
+use Rattle.std.proofs.Common.{◌≡◌, ◌≢◌, ℕ, zero, suc, ◌+◌, ◌-◌, ◌/◌, ◌%◌, ◌<◌, ◌≤◌, ◌⊎◌, inl, inr, false, List, length, drop, refl, sym, ap}
+use Rattle.std.proofs.Common.{◌∙◌, arith}
 use Rattle.std.proofs.lemmas.Bool.{cases_eq, ne_eqb}
 use Rattle.mx_words.specs.declared.perm.Perm.{Perm}
 use Rattle.mx_words.specs.declared.perm.Span.{Span}
@@ -21,7 +22,8 @@ pub record IsRunAt (perms : List Perm) (i next : ℕ) : Type 0 where
   pub values : next ≢ 0 → value_code (drop i perms) / 4 ≡ value_code (drop next perms)
 
 alike-more : (perms : List Perm) (i end : ℕ) → number (perm_at perms i) ≡ number (perm_at perms (i + 1)) →
-    ((k : ℕ) → i + 1 ≤ k → k < end → perm_at perms k ≡ perm_at perms (i + 1)) → (k : ℕ) → i ≤ k → k < end → perm_at perms k ≡ perm_at perms i
+    ((k : ℕ) → i + 1 ≤ k → k < end → perm_at perms k ≡ perm_at perms (i + 1)) → (k : ℕ) → i ≤ k → k < end
+    → perm_at perms k ≡ perm_at perms i
 alike-more perms i end e rest k from below = cases (cases_eq k i)
   where
     first : perm_at perms i ≡ perm_at perms (i + 1)
@@ -81,16 +83,19 @@ run-last perms i next whole at is =
 
 run-step : (perms : List Perm) (i next : ℕ) → length perms ≡ 16 → i + 1 < 16 → next ≡ start_code i (drop i perms) % 16 →
     (next ≡ start_code (i + 1) (drop (i + 1) perms) % 16 → IsRunAt perms (i + 1) next) →
-    (number (perm_at perms i) ≡ number (perm_at perms (i + 1))) ⊎ (number (perm_at perms i) ≢ number (perm_at perms (i + 1))) → IsRunAt perms i next
+    (number (perm_at perms i) ≡ number (perm_at perms (i + 1))) ⊎ (number (perm_at perms i) ≢ number (perm_at perms (i + 1)))
+    → IsRunAt perms i next
 run-step perms i next whole below is rest (inl e) =
     let inside : i + 1 < length perms = omega arith in
     run-longer perms i next whole below e (rest (is ∙ ap (λ s. s % 16) (start_code-same perms i (i + 1) refl inside e)))
 run-step perms i next whole below is rest (inr ne) = run-ended perms i next whole below ne is
 
-pub run-at : (n : ℕ) (perms : List Perm) (i next : ℕ) → length perms ≡ 16 → i + n ≡ 15 → next ≡ start_code i (drop i perms) % 16 → IsRunAt perms i next
+pub run-at : (n : ℕ) (perms : List Perm) (i next : ℕ) → length perms ≡ 16 → i + n ≡ 15 → next ≡ start_code i (drop i perms) % 16
+    → IsRunAt perms i next
 run-at zero perms i next whole sum is = run-last perms i next whole (omega arith) is
 run-at (suc n) perms i next whole sum is =
-    run-step perms i next whole (omega arith) is (run-at n perms (i + 1) next whole (omega arith)) (cases_eq (number (perm_at perms i)) (number (perm_at perms (i + 1))))
+    run-step perms i next whole (omega arith) is (run-at n perms (i + 1) next whole (omega arith))
+    (cases_eq (number (perm_at perms i)) (number (perm_at perms (i + 1))))
 
 -- the codes that are left are those of the words from a run's first word on, which is at the place or before it
 pub record IsBegun (perms : List Perm) (place first values starts : ℕ) : Type 0 where
@@ -99,17 +104,20 @@ pub record IsBegun (perms : List Perm) (place first values starts : ℕ) : Type 
   pub starts_left : starts ≡ start_code first (drop first perms)
   pub begins : 0 < first → same (perm_at perms first) (perm_at perms (first - 1)) ≡ false
 
-pub begun-more : (perms : List Perm) (place first values starts : ℕ) → length perms ≡ 16 → place < 16 → IsBegun perms place first values starts →
+pub begun-more : (perms : List Perm) (place first values starts : ℕ) → length perms ≡ 16 → place < 16
+    → IsBegun perms place first values starts →
     starts % 16 ≢ 0 → starts % 16 ≤ place → IsBegun perms place (starts % 16) (values / 4) (starts / 16)
 begun-more perms place first values starts whole below b some at =
-    let r : IsRunAt perms first (starts % 16) = run-at (15 - first) perms first (starts % 16) whole (omega (arith, b.from)) (ap (λ s. s % 16) b.starts_left) in
+    let r : IsRunAt perms first (starts % 16) = run-at (15 - first) perms first (starts % 16) whole (omega (arith, b.from))
+    (ap (λ s. s % 16) b.starts_left) in
     let later : first < starts % 16 = r.later some in
     let before : perm_at perms (starts % 16 - 1) ≡ perm_at perms first = r.alike some (starts % 16 - 1) (omega arith) (omega arith) in
     record {
       from = at;
       values_left = ap (λ v. v / 4) b.values_left ∙ r.values some;
       starts_left = ap (λ s. s / 16) b.starts_left ∙ r.starts some;
-      begins = λ _. ne_eqb (number (perm_at perms (starts % 16))) (number (perm_at perms (starts % 16 - 1))) (λ h. r.other some (ap number (sym before) ∙ sym h));
+      begins = λ _. ne_eqb (number (perm_at perms (starts % 16))) (number (perm_at perms (starts % 16 - 1))) (λ h.
+          r.other some (ap number (sym before) ∙ sym h));
     }
 
 -- where the run ends
@@ -119,10 +127,12 @@ pub record IsEnd (perms : List Perm) (place first end : ℕ) : Type 0 where
   pub alike : (k : ℕ) → first ≤ k → k < end → perm_at perms k ≡ perm_at perms first
   pub after : end < 16 → same (perm_at perms first) (perm_at perms end) ≡ false
 
-pub end-at : (perms : List Perm) (place first values starts : ℕ) → length perms ≡ 16 → place < 16 → IsBegun perms place first values starts →
+pub end-at : (perms : List Perm) (place first values starts : ℕ) → length perms ≡ 16 → place < 16
+    → IsBegun perms place first values starts →
     starts % 16 ≢ 0 → place < starts % 16 → IsEnd perms place first (starts % 16)
 end-at perms place first values starts whole below b some far =
-    let r : IsRunAt perms first (starts % 16) = run-at (15 - first) perms first (starts % 16) whole (omega (arith, b.from)) (ap (λ s. s % 16) b.starts_left) in
+    let r : IsRunAt perms first (starts % 16) = run-at (15 - first) perms first (starts % 16) whole (omega (arith, b.from))
+    (ap (λ s. s % 16) b.starts_left) in
     record {
       later = far;
       short = omega (arith, r.short);
@@ -130,10 +140,12 @@ end-at perms place first values starts whole below b some far =
       after = λ _. ne_eqb (number (perm_at perms first)) (number (perm_at perms (starts % 16))) (r.other some);
     }
 
-pub end-last : (perms : List Perm) (place first values starts : ℕ) → length perms ≡ 16 → place < 16 → IsBegun perms place first values starts →
+pub end-last : (perms : List Perm) (place first values starts : ℕ) → length perms ≡ 16 → place < 16
+    → IsBegun perms place first values starts →
     starts % 16 ≡ 0 → IsEnd perms place first 16
 end-last perms place first values starts whole below b none =
-    let r : IsRunAt perms first (starts % 16) = run-at (15 - first) perms first (starts % 16) whole (omega (arith, b.from)) (ap (λ s. s % 16) b.starts_left) in
+    let r : IsRunAt perms first (starts % 16) = run-at (15 - first) perms first (starts % 16) whole (omega (arith, b.from))
+    (ap (λ s. s % 16) b.starts_left) in
     record { later = below; short = omega arith; alike = r.last none; after = λ h. absurd (omega arith) }
 
 -- the span between
@@ -151,7 +163,8 @@ run-between perms line place first end run whole below from begins ends at count
       before = λ some. ap (λ p. same p (perm_at perms (first - 1))) here ∙ begins some;
       after = λ short. ap (λ p. same p (perm_at perms end)) here ∙ ends.after short;
     } in
-    let is : line_run perms place ≡ record { first = first; count = end - first; perm = perm_at perms place } = span_within_is perms 0 16 first end place (omega arith) round in
+    let is : line_run perms place ≡ record { first = first; count = end - first; perm = perm_at perms place } =
+    span_within_is perms 0 16 first end place (omega arith) round in
     ap (λ (n : ℕ). record { first = n; count = run.count; perm = run.perm }) at
     ∙ ap (λ (n : ℕ). record { first = line + first; count = n; perm = run.perm }) count
     ∙ ap (λ (p : Perm). record { first = line + first; count = end - first; perm = p }) (perm ∙ sym here)

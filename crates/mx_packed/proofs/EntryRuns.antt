@@ -1,5 +1,6 @@
 -- The run of a word of a packed entry.
-use Rattle.std.proofs.Common.{◌≡◌, ◌≢◌, ℕ, ◌+◌, ◌-◌, ◌/◌, ◌%◌, ◌^◌, ◌<◌, ◌≤◌, ◌==◌, ◌⊎◌, inl, inr, Bool, true, false, nat_lt, List, length, drop, if◌then◌else◌, refl, sym, ap, ◌∙◌, arith, length-take, eq-eqb, min}
+use Rattle.std.proofs.Common.{◌≡◌, ◌≢◌, ℕ, ◌+◌, ◌-◌, ◌/◌, ◌%◌, ◌^◌, ◌<◌, ◌≤◌, ◌==◌, ◌⊎◌, inl, inr, Bool, true, false, nat_lt, List, length}
+use Rattle.std.proofs.Common.{drop, if◌then◌else◌, refl, sym, ap, ◌∙◌, arith, length-take, eq-eqb, min}
 use Rattle.std.specs.List.{prefix_len, suffix_len, slice_range}
 use Rattle.std.proofs.lemmas.Bool.{ltb-false, ne_eqb}
 use Rattle.std.proofs.lemmas.Bool.Decides.{eqb_tells}
@@ -11,32 +12,38 @@ use Rattle.mx_words.specs.Rights.{same, perm_at}
 use Rattle.mx_words.specs.Runs.{runs, line_words}
 use Rattle.mx_words.specs.Reach.{packed}
 use Rattle.mx_words.proofs.NumberLaws.{shift-first}
-use Rattle.mx_trie.specs.Leaf.{IsStored, IsEntry, needs_spill, packed_entry, line_run, placed, lengthened, left_of_run, right_of_run, entry_run}
+use Rattle.mx_trie.specs.Leaf.{IsStored, IsEntry, needs_spill, packed_entry, line_run, placed, lengthened, left_of_run, right_of_run}
+use Rattle.mx_trie.specs.Leaf.{entry_run}
 use Rattle.mx_trie.proofs.PlainRuns.{left_of_run-none, right_of_run-none, lengthened-none}
 use Rattle.mx_trie.proofs.MiniEntries.{IsMade, mini-made}
 
 -- what stands stored for a line, by whether it needs a spill word
-stored-crowded : (perms : List Perm) (left right spill line entry spilled : ℕ) → IsStored K.Packed perms left right spill line entry spilled →
+stored-crowded : (perms : List Perm) (left right spill line entry spilled : ℕ)
+    → IsStored K.Packed perms left right spill line entry spilled →
     entry % 4 ≡ 3 → needs_spill K.Packed perms ≡ true
 stored-crowded perms left right spill line entry spilled s tag =
     elim (nat_lt 4 (runs perms)) as (λ b. nat_lt 4 (runs perms) ≡ b → entry ≡ packed_entry b perms left right spill → b ≡ true) [
       | true ↦ λ yes e. refl
       | false ↦ λ no e. (let few : runs perms ≤ 4 = omega (arith, ltb-false 4 (runs perms) no) in
-          let made : IsMade perms left right entry = mini-made perms left right entry (omega (arith, s.whole)) s.left_most s.right_most few e in
+          let made : IsMade perms left right entry = mini-made perms left right entry (omega (arith, s.whole)) s.left_most s.right_most few
+          e in
           absurd (omega (arith, made.tagged)))
     ] refl s.entry_is
 
-pub stored-mini : (perms : List Perm) (left right spill line entry spilled : ℕ) → IsStored K.Packed perms left right spill line entry spilled →
+pub stored-mini : (perms : List Perm) (left right spill line entry spilled : ℕ)
+    → IsStored K.Packed perms left right spill line entry spilled →
     entry % 4 ≢ 3 → (needs_spill K.Packed perms ≡ false) × IsMade perms left right entry
 stored-mini perms left right spill line entry spilled s tag =
-    elim (nat_lt 4 (runs perms)) as (λ b. nat_lt 4 (runs perms) ≡ b → entry ≡ packed_entry b perms left right spill → (b ≡ false) × IsMade perms left right entry) [
+    elim (nat_lt 4 (runs perms)) as (λ b. nat_lt 4 (runs perms) ≡ b → entry ≡ packed_entry b perms left right spill
+    → (b ≡ false) × IsMade perms left right entry) [
       | true ↦ λ yes e. absurd (tag (let is : entry % 4 ≡ 3 = omega arith in is))
       | false ↦ λ no e. (let few : runs perms ≤ 4 = omega (arith, ltb-false 4 (runs perms) no) in
           (refl, mini-made perms left right entry (omega (arith, s.whole)) s.left_most s.right_most few e))
     ] refl s.entry_is
 
 -- a spill word is a plain entry of its line
-spilled-plain : (perms : List Perm) (left right spill line entry spilled : ℕ) → IsStored K.Packed perms left right spill line entry spilled →
+spilled-plain : (perms : List Perm) (left right spill line entry spilled : ℕ)
+    → IsStored K.Packed perms left right spill line entry spilled →
     entry % 4 ≡ 3 → IsStored K.Multilevel perms 0 0 0 line spilled 0
 spilled-plain perms left right spill line entry spilled s tag = record {
   whole = s.whole;
@@ -45,7 +52,8 @@ spilled-plain perms left right spill line entry spilled s tag = record {
   before = omega arith;
   behind = omega (arith, s.behind);
   numbered = omega arith;
-  entry_is = s.spilled_is ∙ ap (λ (b : Bool). if b then packed perms else 0) (stored-crowded perms left right spill line entry spilled s tag);
+  entry_is = s.spilled_is ∙ ap (λ (b : Bool). if b then packed perms else 0)
+      (stored-crowded perms left right spill line entry spilled s tag);
   spilled_is = refl;
 }
 
@@ -82,10 +90,13 @@ spill-run perms left right spill line entry spilled word run s tag found =
 -- a line's run lies in the line
 pub line_run-inside : (perms : List Perm) (i : ℕ) → i < line_words → (line_run perms i).first + (line_run perms i).count ≤ line_words
 line_run-inside perms i below =
-    let l : suffix_len (same (perm_at perms i)) (slice_range perms 0 i) ≤ length (slice_range perms 0 i) = suffix_len-le-length (same (perm_at perms i)) (slice_range perms 0 i) in
-    let r : prefix_len (same (perm_at perms i)) (slice_range perms i line_words) ≤ length (slice_range perms i line_words) = prefix_len-le-length (same (perm_at perms i)) (slice_range perms i line_words) in
+    let l : suffix_len (same (perm_at perms i)) (slice_range perms 0 i) ≤ length (slice_range perms 0 i) =
+    suffix_len-le-length (same (perm_at perms i)) (slice_range perms 0 i) in
+    let r : prefix_len (same (perm_at perms i)) (slice_range perms i line_words) ≤ length (slice_range perms i line_words) =
+    prefix_len-le-length (same (perm_at perms i)) (slice_range perms i line_words) in
     let a : length (slice_range perms 0 i) ≡ min (i - 0) (length perms) = length-take (i - 0) perms in
-    let b : length (slice_range perms i line_words) ≡ min (line_words - i) (length (drop i perms)) = length-take (line_words - i) (drop i perms) in
+    let b : length (slice_range perms i line_words) ≡ min (line_words - i) (length (drop i perms)) =
+    length-take (line_words - i) (drop i perms) in
     omega arith
 
 shift-last : (line a b : ℕ) → (line + a + b == line + line_words) ≡ (a + b == line_words)
@@ -127,14 +138,20 @@ can-lengthen line entry spilled word run e tag from below is =
 pub mini-run : (perms : List Perm) (left right spill line entry spilled word : ℕ) (run : Span) →
     IsStored K.Packed perms left right spill line entry spilled → entry % 4 ≢ 3 →
     run ≡ placed line (line_run perms (word - line)) →
-    lengthened (if run.first == line then entry / 134217728 else 0) (if run.first + run.count == line + line_words then entry / 4194304 % 32 else 0) run
+    lengthened (if run.first == line then entry / 134217728 else 0)
+    (if run.first + run.count == line + line_words then entry / 4194304 % 32 else 0) run
     ≡ entry_run K.Packed perms left right line word
 mini-run perms left right spill line entry spilled word run s tag is =
     let t : Span = line_run perms (word - line) in
     let both = stored-mini perms left right spill line entry spilled s tag in
-    ap (λ (u : Span). lengthened (if u.first == line then entry / 134217728 else 0) (if u.first + u.count == line + line_words then entry / 4194304 % 32 else 0) u) is
-    ∙ ap (λ (n : ℕ). lengthened (if line + t.first == line then n else 0) (if line + t.first + t.count == line + line_words then entry / 4194304 % 32 else 0) (placed line t)) both.1.left_is
-    ∙ ap (λ (n : ℕ). lengthened (if line + t.first == line then left else 0) (if line + t.first + t.count == line + line_words then n else 0) (placed line t)) both.1.right_is
-    ∙ ap (λ (b : Bool). lengthened (if b then left else 0) (if line + t.first + t.count == line + line_words then right else 0) (placed line t)) (shift-first line t.first)
-    ∙ ap (λ (b : Bool). lengthened (if t.first == 0 then left else 0) (if b then right else 0) (placed line t)) (shift-last line t.first t.count)
+    ap (λ (u : Span). lengthened (if u.first == line then entry / 134217728 else 0)
+    (if u.first + u.count == line + line_words then entry / 4194304 % 32 else 0) u) is
+    ∙ ap (λ (n : ℕ). lengthened (if line + t.first == line then n else 0)
+    (if line + t.first + t.count == line + line_words then entry / 4194304 % 32 else 0) (placed line t)) both.1.left_is
+    ∙ ap (λ (n : ℕ). lengthened (if line + t.first == line then left else 0)
+    (if line + t.first + t.count == line + line_words then n else 0) (placed line t)) both.1.right_is
+    ∙ ap (λ (b : Bool). lengthened (if b then left else 0) (if line + t.first + t.count == line + line_words then right else 0)
+    (placed line t)) (shift-first line t.first)
+    ∙ ap (λ (b : Bool). lengthened (if t.first == 0 then left else 0) (if b then right else 0) (placed line t))
+    (shift-last line t.first t.count)
     ∙ sym (ap (λ (b : Bool). lengthened (left_of_run b t left) (right_of_run b t right) (placed line t)) both.0)

@@ -11,7 +11,8 @@ use crate::mini::{pack, run_count, run_of};
 use mx_trie::{LeafForm, Vector};
 use mx_words::{Perm, Span};
 
-/// Packed leaf entries: up to four runs in the entry, which reaches up to 31 words over each edge of the line; a line with more
+/// Packed leaf entries: up to four runs in the entry, which reaches up to 31 words over each edge of the line; a line
+/// with more
 /// runs has a spill word in the form of a plain entry.
 #[derive(Clone, Copy, PartialEq, Eq)]
 pub struct Packed;

@@ -11,7 +11,8 @@ ghost use Rattle.mx_trie.specs.Codes.{value_code, start_code};
 
 use mx_words::{Perm, Span};
 
-/// What a packed entry says of a line: its 16 permissions, and how many words right before and right after the line have the
+/// What a packed entry says of a line: its 16 permissions, and how many words right before and right after the line
+/// have the
 /// permission of its first and of its last word, 0 to 31 each.
 #[derive(Clone, Copy, PartialEq, Eq, Debug)]
 pub struct Unpacked {
@@ -52,7 +53,8 @@ pub fn pack(perms: &[Perm; 16], left: u32, right: u32) -> Option<u32>
     Some(2 + 4 * values + 0x400 * starts + 0x40_0000 * right + 0x800_0000 * left)
 }
 
-/// The permissions of a line's runs, two bits each, and the starts of its second, third and fourth run, four bits each. The line has at
+/// The permissions of a line's runs, two bits each, and the starts of its second, third and fourth run, four bits each.
+/// The line has at
 /// most four runs.
 fn codes(perms: &[Perm; 16]) -> (u32, u32)
     requires { runs perms.now ≤ 4 }
@@ -104,7 +106,8 @@ pub(crate) fn line_of(values: u32, starts: u32) -> [Perm; 16]
     line
 }
 
-/// The run of a word in its line, which begins at the word `line`, from the permissions of the line's runs and from their starts. The
+/// The run of a word in its line, which begins at the word `line`, from the permissions of the line's runs and from
+/// their starts. The
 /// starts rise, and a start of 0 stands after the last one.
 pub(crate) fn run_of(values: u32, starts: u32, line: u32, word: u32) -> Span
     requires coded { IsCoded values starts }

@@ -1,5 +1,6 @@
 -- What was said on a line, text after text.
-use Rattle.std.proofs.Common.{◌≡◌, ℕ, suc, ◌+◌, ◌≤◌, List, [], ◌∷◌, ◌++◌, length, take, Result, Ok, Err, refl, ap, sym, subst, ◌∙◌, arith, append_assoc, length-append}
+use Rattle.std.proofs.Common.{◌≡◌, ℕ, suc, ◌+◌, ◌≤◌, List, [], ◌∷◌, ◌++◌, length, take, Result, Ok, Err, refl, ap, sym, subst, ◌∙◌, arith}
+use Rattle.std.proofs.Common.{append_assoc, length-append}
 use Rattle.std.specs.List.{concat}
 use Rattle.std.proofs.lemmas.List.{append-nil, take-append-le}
 use Rattle.mx_packets.specs.Lines.{Chain, Fails, Speaks, SpeaksOrFails, Utters}
@@ -21,7 +22,8 @@ module _ {L : Type 0} (says : L → List ℕ → L → Type 0) (room : L → ℕ
       let long : length (a ++ b) ≡ length a + length b = length-append a b in
       record {
         texts = one.texts ++ two.texts;
-        whole = concat_more one.texts two.texts ∙ ap (λ (x : List ℕ). x ++ concat two.texts) one.whole ∙ ap (λ (x : List ℕ). a ++ x) two.whole;
+        whole = concat_more one.texts two.texts ∙ ap (λ (x : List ℕ). x ++ concat two.texts) one.whole
+            ∙ ap (λ (x : List ℕ). a ++ x) two.whole;
         said = chain_more l k m one.texts two.texts one.said two.said;
         left = λ few.
             let first : length a ≤ room l = omega (arith, few, long) in
@@ -33,7 +35,8 @@ module _ {L : Type 0} (says : L → List ℕ → L → Type 0) (room : L → ℕ
 
   take_more : (a b : List ℕ) (n : ℕ) → take (length a + n) (a ++ b) ≡ a ++ take n b
   take_more [] b n = let e : 0 + n ≡ n = omega arith in ap (λ k. take k b) e
-  take_more (x ∷ a) b n = let e : length (x ∷ a) + n ≡ suc (length a + n) = omega arith in rw e (ap (λ (y : List ℕ). x ∷ y) (take_more a b n))
+  take_more (x ∷ a) b n = let e : length (x ∷ a) + n ≡ suc (length a + n) = omega arith in
+      rw e (ap (λ (y : List ℕ). x ∷ y) (take_more a b n))
 
   pub fails_behind : (l k m : L) (a b : List ℕ) → Speaks says room l a k → Fails says room k b m → Fails says room l (a ++ b) m
   fails_behind l k m a b one two =
@@ -43,7 +46,8 @@ module _ {L : Type 0} (says : L → List ℕ → L → Type 0) (room : L → ℕ
         bytes = length a + two.bytes;
         few = omega (arith, long, some);
         texts = one.texts ++ two.texts;
-        front = concat_more one.texts two.texts ∙ ap (λ (x : List ℕ). x ++ concat two.texts) one.whole ∙ ap (λ (x : List ℕ). a ++ x) two.front ∙ sym (take_more a b two.bytes);
+        front = concat_more one.texts two.texts ∙ ap (λ (x : List ℕ). x ++ concat two.texts) one.whole
+            ∙ ap (λ (x : List ℕ). a ++ x) two.front ∙ sym (take_more a b two.bytes);
         said = chain_more l k m one.texts two.texts one.said two.said;
         tight = λ few.
             let first : length a ≤ room l = omega (arith, few, long) in
@@ -65,7 +69,8 @@ module _ {L : Type 0} (says : L → List ℕ → L → Type 0) (room : L → ℕ
         tight = λ few. one.tight (omega (arith, few, long));
       }
 
-  pub utters : {A E : Type 0} (l : L) (text : List ℕ) (m : L) (result : Result A E) → Utters says room l text m result → SpeaksOrFails says room l text m result
+  pub utters : {A E : Type 0} (l : L) (text : List ℕ) (m : L) (result : Result A E) → Utters says room l text m result
+      → SpeaksOrFails says room l text m result
   utters l text m (Ok a) u = record {
     texts = text ∷ [];
     whole = append-nil text;

@@ -2,7 +2,7 @@
 use Rattle.std.specs.Prelude.{◌≡◌, ℕ, ◌%◌, ◌==◌, ◌||◌, ◌≤◌, Bool, List, [], ◌∷◌, ◌++◌, length, sum, flat_map, if◌then◌else◌}
 use Rattle.mx_packets.specs.declared.receiver.Heard.{Heard}
 use Rattle.mx_packets.specs.declared.receiver.Heard.TheVariants as H
-use Rattle.mx_packets.specs.Packets.{Gathered, after, flipped, heard, most_bytes, none_gathered}
+use Rattle.mx_packets.specs.Packets.{Gathered, after, flipped, heard, most_packet, none_gathered}
 use Rattle.mx_packets.specs.Frames.{pair}
 
 -- what is heard on a line: a packet's bytes, one that is too long, or one whose sum is wrong
@@ -42,5 +42,5 @@ CutsDontMatter = (g : Gathered) (a b : List ℕ) → told_all g (a ++ b) ≡ tol
 
 -- each text that fits is heard as it was meant
 abbrev pub TextsAreHeard : Type 0
-TextsAreHeard = (body : List ℕ) → length body ≤ most_bytes →
+TextsAreHeard = (body : List ℕ) → length body ≤ most_packet →
     told_all none_gathered (sent body) ≡ Packet body ∷ []

@@ -2,14 +2,12 @@
 ghost use Rattle.std.specs.Prelude.{◌≡◌, ◌≤◌, ◌<◌, ◌+◌, ◌%◌, [], ◌∷◌, ◌++◌, length, sum};
 ghost use Rattle.mx_io.specs.Piece.{hex_digit};
 ghost use Rattle.mx_packets.specs.Frames.{cut, pair};
+ghost use Rattle.mx_packets.specs.Packets.{most_packet};
 ghost use Rattle.mx_packets.specs.Streams.{escaped, is_special, sent};
 
-use crate::receiver::flipped;
+use crate::receiver::{MOST_PACKET, flipped};
 use arrayvec::ArrayVec;
 use std::marker::Model;
-
-/// The most bytes of an answer.
-const MOST: usize = 4096;
 
 /// The packet of an answer.
 pub type Packet = ArrayVec<u8, 8200>;
@@ -17,17 +15,18 @@ pub type Packet = ArrayVec<u8, 8200>;
 /// The text of an answer: its first 4096 bytes.
 #[derive(Drop)]
 pub struct Answer {
-    bytes: ArrayVec<u8, MOST>,
+    bytes: ArrayVec<u8, MOST_PACKET>,
 }
 
 impl Model for Answer {
     ghost use Rattle.std.specs.Prelude.{ℕ, List, length, ◌≤◌};
+    ghost use Rattle.mx_packets.specs.Packets.{most_packet};
 
     ghost Value = { List ℕ };
 
     ghost view = { λ a. a.bytes.items };
 
-    ghost invariant = { λ a. length a.bytes.items ≤ 4096 };
+    ghost invariant = { λ a. length a.bytes.items ≤ most_packet };
 }
 
 impl Answer {
@@ -51,7 +50,7 @@ impl Answer {
     pub fn push(&mut self, byte: u8)
         ensures { self.new ≡ cut (self.old ++ byte ∷ []) }
     {
-        if self.bytes.len() < MOST {
+        if self.bytes.len() < MOST_PACKET {
             self.bytes.push(byte);
         }
     }
@@ -76,7 +75,7 @@ impl Answer {
     /// The text.
     pub fn text(&self) -> &[u8]
         ensures text { result.now ≡ self.now }
-        ensures few { length self.now ≤ 4096 }
+        ensures few { length self.now ≤ most_packet }
     {
         self.bytes.as_slice()
     }
@@ -102,7 +101,7 @@ fn digit(digit: u8) -> u8
 
 /// The packet of an answer: the bytes that would change its meaning are escaped.
 pub fn framed(body: &[u8]) -> Packet
-    requires { length body.now ≤ 4096 }
+    requires { length body.now ≤ most_packet }
     ensures { result.items ≡ sent body.now }
 {
     let mut packet = ArrayVec::new();

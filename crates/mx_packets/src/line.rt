@@ -17,7 +17,8 @@ pub trait Line {
     /// A step of the line: these bytes were said, and nothing was heard. Nothing else makes one.
     ghost says: { Self → List ℕ → Self → Type 0 };
 
-    /// Hears a piece, puts it at the start of `into` and tells its length: at least one byte, or none where nothing is heard any more.
+    /// Hears a piece, puts it at the start of `into` and tells its length: at least one byte, or none where nothing is
+    /// heard any more.
     fn hear(&mut self, into: &mut [u8]) -> usize
         ensures heard { hears self.old (take result into.new) self.new }
         ensures bound { result ≤ length into.new }

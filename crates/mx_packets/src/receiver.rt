@@ -1,14 +1,15 @@
 //! Bytes that were heard, as packets.
 ghost use Rattle.std.specs.Prelude.{◌≡◌, ◌==◌};
 ghost use Rattle.mx_packets.specs.declared.receiver.Place.TheVariants as P;
-ghost use Rattle.mx_packets.specs.Packets.{after, begins, begun, by_digits, by_first, digit_of, first_digit, flipped, heard, none_gathered, summed, with_byte, within};
+ghost use Rattle.mx_packets.specs.Packets.{after, begins, begun, by_digits, by_first, digit_of, first_digit, flipped};
+ghost use Rattle.mx_packets.specs.Packets.{heard, none_gathered, summed, with_byte, within};
 
 use crate::digit::hex_value;
 use arrayvec::ArrayVec;
 use std::marker::Model;
 
-/// The most bytes of a packet, without its frame.
-const MOST: usize = 4096;
+/// The most bytes of a packet or of an answer, without its frame.
+pub(crate) const MOST_PACKET: usize = 4096;
 
 /// Where in a packet one stands.
 #[derive(Clone, Copy)]
@@ -42,20 +43,20 @@ pub enum Heard {
 #[derive(Drop)]
 pub struct Receiver {
     place: Place,
-    bytes: ArrayVec<u8, MOST>,
+    bytes: ArrayVec<u8, MOST_PACKET>,
     total: u8,
     over: bool,
 }
 
 impl Model for Receiver {
     ghost use Rattle.std.specs.Prelude.{length, ◌≤◌};
-    ghost use Rattle.mx_packets.specs.Packets.{Gathered};
+    ghost use Rattle.mx_packets.specs.Packets.{Gathered, most_packet};
 
     ghost Value = { Gathered };
 
     ghost view = { λ r. record { place = r.place; body = r.bytes.items; checksum = r.total; long = r.over } };
 
-    ghost invariant = { λ r. length r.bytes.items ≤ 4096 };
+    ghost invariant = { λ r. length r.bytes.items ≤ most_packet };
 }
 
 impl Receiver {
@@ -139,7 +140,7 @@ impl Receiver {
     fn keep(&mut self, byte: u8)
         ensures { self.new ≡ with_byte self.old byte }
     {
-        if self.bytes.len() < MOST {
+        if self.bytes.len() < MOST_PACKET {
             self.bytes.push(byte);
         } else {
             self.over = true;

@@ -1,6 +1,11 @@
 //! What a packet asks.
 ghost use Rattle.std.specs.Prelude.{◌≡◌, ◌≤◌, ◌<◌, ◌^◌, length, IfSome};
-ghost use Rattle.mx_packets.specs.Requests.{about_of, action_of, alone, back_of, before, behind, by_action, by_letter, by_query, by_setting, by_verbose, choice_of, clear_of, decimal_digit, feature_of, file_of, memory_of, number_of, object_of, pair_of, part_of, place_in, point_of, range_of, register_of, request_of, run_of, set_of, thread_by, thread_number, thread_of, turns_from, turns_of, value_from, whole_of};
+ghost use Rattle.mx_packets.specs.Requests.{about_of, action_of, alone, back_of, before, behind, by_action, by_letter};
+ghost use Rattle.mx_packets.specs.Requests.{by_query, by_setting, by_verbose, choice_of, clear_of, decimal_digit};
+ghost use Rattle.mx_packets.specs.Requests.{feature_of, file_of, memory_of, number_of, object_of, pair_of, part_of};
+ghost use Rattle.mx_packets.specs.Requests.{place_in, point_of, range_of, register_of, request_of, run_of, set_of};
+ghost use Rattle.mx_packets.specs.Requests.{thread_by, thread_number, thread_of, turns_from, turns_of, value_from};
+ghost use Rattle.mx_packets.specs.Requests.{whole_of};
 
 use crate::digit::hex_value;
 

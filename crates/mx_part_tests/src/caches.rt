@@ -1,6 +1,5 @@
 //! The places of a hart, and its newest spans.
-use mx_lookaside::Lookaside;
-use mx_sidecar::Sidecars;
+use mx_caches::{Lookaside, Sidecars};
 use mx_words::{Perm, Span};
 use std::process::Abort;
 

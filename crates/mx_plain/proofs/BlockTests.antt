@@ -1,5 +1,7 @@
 -- Whether blocks have one permission, from tests of the words one by one.
-use Rattle.std.proofs.Common.{◌≡◌, ◌≢◌, ℕ, suc, ◌+◌, ◌-◌, ◌*◌, ◌/◌, ◌%◌, ◌<◌, ◌≤◌, ◌⊎◌, inl, inr, ◌↔◌, IsTrue, Bool, true, false, List, length, take, drop, replicate, refl, sym, ◌∙◌, ap, arith, length-take, length-append, get_or-take, get_or-drop}
+use Rattle.std.proofs.Common.{◌≡◌, ◌≢◌, ℕ, suc, ◌+◌, ◌-◌, ◌*◌, ◌/◌, ◌%◌, ◌<◌, ◌≤◌, ◌⊎◌, inl, inr, ◌↔◌, IsTrue, Bool, true, false, List}
+use Rattle.std.proofs.Common.{length, take, drop, replicate, refl, sym, ◌∙◌, ap, arith, length-take, length-append, get_or-take}
+use Rattle.std.proofs.Common.{get_or-drop}
 use Rattle.std.proofs.lemmas.Bool.{cases_lt}
 use Rattle.std.proofs.lemmas.List.{get_or_past, ext_get_or, get_or_append_left, get_or-append_right, length-replicate, get_or-replicate}
 use Rattle.std.proofs.Math.Nat.{lt-div-mul-add, suc-mul}
@@ -22,14 +24,16 @@ uniform_no m first count word from below differs = (
 )
 
 -- all words in RAM have the first one's permission, and there are words outside
-pub uniform_cut : (m : List Perm) (first count : ℕ) → length m < first + count → ((k : ℕ) → first ≤ k → k < length m → perm_at m k ≡ perm_at m first) →
+pub uniform_cut : (m : List Perm) (first count : ℕ) → length m < first + count
+    → ((k : ℕ) → first ≤ k → k < length m → perm_at m k ≡ perm_at m first) →
     IsTrue (same (perm_at m first) P.None) ↔ IsUniform m first count
 uniform_cut m first count cut alike = (there, back)
   where
     outside : (k : ℕ) → length m ≤ k → perm_at m k ≡ P.None
     outside k past = get_or_past m k P.None past
 
-    each : same (perm_at m first) P.None ≡ true → (k : ℕ) → (first + k < length m) ⊎ (length m ≤ first + k) → perm_at m (first + k) ≡ perm_at m first
+    each : same (perm_at m first) P.None ≡ true → (k : ℕ) → (first + k < length m) ⊎ (length m ≤ first + k)
+        → perm_at m (first + k) ≡ perm_at m first
     each e k (inl h) = alike (first + k) (omega arith) h
     each e k (inr h) = outside (first + k) h ∙ sym (same_eq (perm_at m first) P.None e)
 
@@ -68,7 +72,8 @@ blocks_hold size words some =
     omega (arith, suc-mul (words / size) size)
 
 -- a line with its words outside RAM, word by word
-pub whole_line_is : (m : List Perm) (first : ℕ) (line : List Perm) → length line ≡ 16 → ((k : ℕ) → k < 16 → perm_at line k ≡ perm_at m (first + k)) →
+pub whole_line_is : (m : List Perm) (first : ℕ) (line : List Perm) → length line ≡ 16
+    → ((k : ℕ) → k < 16 → perm_at line k ≡ perm_at m (first + k)) →
     line ≡ whole_line (take line_words (drop first m))
 whole_line_is m first line long each =
     ext_get_or P.None line (whole_line cut) (long ∙ sym whole)

@@ -1,5 +1,6 @@
 -- Lengths of runs from tests of the words, one by one.
-use Rattle.std.proofs.Common.{◌≡◌, ℕ, ◌+◌, ◌-◌, ◌<◌, ◌≤◌, ◌⊎◌, inl, inr, true, false, min, List, length, get_or, drop, slice_range, sym, ◌∙◌, ap, arith, length-take, length-drop}
+use Rattle.std.proofs.Common.{◌≡◌, ℕ, ◌+◌, ◌-◌, ◌<◌, ◌≤◌, ◌⊎◌, inl, inr, true, false, min, List, length, get_or, drop, slice_range, sym}
+use Rattle.std.proofs.Common.{◌∙◌, ap, arith, length-take, length-drop}
 use denote.Enum.Bare.{sameb}
 use Rattle.std.proofs.lemmas.Bool.{cases_lt}
 use Rattle.std.specs.List.{prefix_len, suffix_len}
@@ -20,7 +21,8 @@ pub alike_before_is : (m : List Perm) (p : Perm) (low end count : ℕ) → end �
     (low + count < end → same p (perm_at m (end - count - 1)) ≡ false) → count ≡ suffix_len (same p) (slice_range m low end)
 alike_before_is m p low end count fits few alike stop =
     let len = length-slice m low end fits in
-    let passes : (k : ℕ) → end - count - low ≤ k → k < length (slice_range m low end) → same p (get_or (slice_range m low end) k P.None) ≡ true =
+    let passes : (k : ℕ) → end - count - low ≤ k → k < length (slice_range m low end)
+    → same p (get_or (slice_range m low end) k P.None) ≡ true =
     λ k le lt. ap (same p) (slice-at m low end k (omega (arith, len))) ∙ alike (low + k) (omega (arith, len)) (omega (arith, len)) in
     let stops : 0 < end - count - low → same p (get_or (slice_range m low end) (end - count - low - 1) P.None) ≡ false =
     λ lt. let e : low + (end - count - low - 1) ≡ end - count - 1 = omega arith in
@@ -29,18 +31,24 @@ alike_before_is m p low end count fits few alike stop =
     omega (arith, whole, len)
 
 -- the words from `first` up to `word` have a permission, and word `word`, where it lies before `high` and in RAM, has another one
-pub alike_from_is : (m : List Perm) (p : Perm) (first high word : ℕ) → first ≤ word → (first < word → word ≤ high) → (first < word → word ≤ length m) →
+pub alike_from_is : (m : List Perm) (p : Perm) (first high word : ℕ) → first ≤ word → (first < word → word ≤ high)
+    → (first < word → word ≤ length m) →
     ((k : ℕ) → first ≤ k → k < word → same p (perm_at m k) ≡ true) →
     (word < high → word < length m → same p (perm_at m word) ≡ false) → word - first ≡ prefix_len (same p) (slice_range m first high)
 alike_from_is m p first high word from most inside alike stop =
-    let len : length (slice_range m first high) ≡ min (high - first) (length m - first) = omega (arith, length-take (high - first) (drop first m), length-drop first m) in
+    let len : length (slice_range m first high) ≡ min (high - first) (length m - first) =
+    omega (arith, length-take (high - first) (drop first m), length-drop first m) in
     let passes : (k : ℕ) → k < word - first → same p (get_or (slice_range m first high) k P.None) ≡ true =
-    λ k lt. ap (same p) (slice-at m first high k (let below = most (omega arith) in omega arith)) ∙ alike (first + k) (omega arith) (omega arith) in
-    let stops : word - first < length (slice_range m first high) → same p (get_or (slice_range m first high) (word - first) P.None) ≡ false =
+    λ k lt. ap (same p) (slice-at m first high k (let below = most (omega arith) in omega arith))
+    ∙ alike (first + k) (omega arith) (omega arith) in
+    let stops : word - first < length (slice_range m first high)
+    → same p (get_or (slice_range m first high) (word - first) P.None) ≡ false =
     λ lt. let e : first + (word - first) ≡ word = omega arith in
-    ap (same p) (slice-at m first high (word - first) (omega (arith, len)) ∙ ap (perm_at m) e) ∙ stop (omega (arith, len)) (omega (arith, len)) in
+    ap (same p) (slice-at m first high (word - first) (omega (arith, len)) ∙ ap (perm_at m) e)
+    ∙ stop (omega (arith, len)) (omega (arith, len)) in
     sym (prefix_len_is (same p) (slice_range m first high) (word - first) P.None (short (cases_lt first word) len) passes stops)
   where
-    short : (first < word) ⊎ (word ≤ first) → length (slice_range m first high) ≡ min (high - first) (length m - first) → word - first ≤ length (slice_range m first high)
+    short : (first < word) ⊎ (word ≤ first) → length (slice_range m first high) ≡ min (high - first) (length m - first)
+        → word - first ≤ length (slice_range m first high)
     short (inl h) len = let a = most h in let b = inside h in omega (arith, len)
     short (inr h) len = omega arith

@@ -17,12 +17,14 @@ use Rattle.mx_table.proofs.ChangedMaps.{changed-at, length-changed}
 use Rattle.mx_plain.proofs.NeedSums.{row_map-at, length-row_maps}
 
 -- the map at a row
-pub row_long : (kind : Kind) (words : ℕ) (limit : Need) (maps : List (List Perm)) → IsShaped kind words limit maps → (k : ℕ) → k < length maps → length (get_or maps k []) ≡ words
+pub row_long : (kind : Kind) (words : ℕ) (limit : Need) (maps : List (List Perm)) → IsShaped kind words limit maps → (k : ℕ)
+    → k < length maps → length (get_or maps k []) ≡ words
 row_long kind words limit maps shape k lt =
     let back : k + 1 - 1 ≡ k = omega arith in
     ap (λ i. length (get_or maps i [])) (sym back) ∙ shape.each (k + 1) (record { first = omega arith; last = omega arith })
 
-pub row_small : (kind : Kind) (words : ℕ) (limit : Need) (maps : List (List Perm)) → IsShaped kind words limit maps → (k : ℕ) → length (get_or maps k []) ≤ most_words
+pub row_small : (kind : Kind) (words : ℕ) (limit : Need) (maps : List (List Perm)) → IsShaped kind words limit maps → (k : ℕ)
+    → length (get_or maps k []) ≤ most_words
 row_small kind words limit maps shape k = by (cases_lt k (length maps))
   where
     by : (k < length maps) ⊎ (length maps ≤ k) → length (get_or maps k []) ≤ most_words
@@ -31,7 +33,8 @@ row_small kind words limit maps shape k = by (cases_lt k (length maps))
 
 -- maps that have their changes, row by row, are the changed ones
 pub changed_are : (change : Change) (maps after : List (List Perm)) → length after ≡ length maps →
-    ((k : ℕ) → k < length maps → get_or after k [] ≡ changed_map change.first change.count (given change (k + 1)) (get_or maps k [])) → after ≡ changed change maps
+    ((k : ℕ) → k < length maps → get_or after k [] ≡ changed_map change.first change.count (given change (k + 1)) (get_or maps k []))
+    → after ≡ changed change maps
 changed_are change maps after long each =
     ext_get_or [] after (changed change maps) (long ∙ sym (length-changed change maps))
     (λ i lt. let below : i < length maps = omega (arith, long) in each i below ∙ sym (changed-at change maps i below))
@@ -55,7 +58,8 @@ changed_shape kind words limit maps change shape fit = record {
   fit = fit;
 }
 
-pub rows_shape : (kind : Kind) (words : ℕ) (limit : Need) (rows : List (List Span)) → 1 ≤ words → words ≤ most_words → 1 ≤ length rows → length rows ≤ most_modules → IsLimit limit →
+pub rows_shape : (kind : Kind) (words : ℕ) (limit : Need) (rows : List (List Span)) → 1 ≤ words → words ≤ most_words → 1 ≤ length rows
+    → length rows ≤ most_modules → IsLimit limit →
     fits kind limit (map (row_map words) rows) ≡ true → IsShaped kind words limit (map (row_map words) rows)
 rows_shape kind words limit rows some few some_rows few_rows limited fit = record {
   some_words = some;

@@ -1,7 +1,8 @@
 //! Aligned blocks of a map: regions, pages and lines.
 ghost use Rattle.std.specs.Prelude.{◌≡◌, ◌+◌, ◌*◌, ◌%◌, ◌^◌, ◌<◌, ◌≤◌, ◌↔◌, IsTrue, length, take, drop};
 ghost use Rattle.mx_words.specs.Blocks.{block_of, IsUniform, IsEven};
-ghost use Rattle.mx_words.specs.Runs.{is_eighth_uniform, is_crowded, broken_blocks, crowded_lines, line_words, region_words, whole_line};
+ghost use Rattle.mx_words.specs.Runs.{is_eighth_uniform, is_crowded, broken_blocks, crowded_lines, line_words};
+ghost use Rattle.mx_words.specs.Runs.{region_words, whole_line};
 ghost use Rattle.mx_table.specs.Tables.{most_words};
 
 use crate::maps::WordMap;

@@ -1,5 +1,6 @@
 //! Sample rows of permission tables, and changes of the rights of their first domain.
-ghost use Rattle.std.specs.Prelude.{◌≡◌, ℕ, ◌+◌, ◌*◌, ◌^◌, ◌<◌, ◌≤◌, [], ◌∷◌, length, Some, IsTrue, IsFalse, IfOk, IfErr};
+ghost use Rattle.std.specs.Prelude.{◌≡◌, ℕ, ◌+◌, ◌*◌, ◌^◌, ◌<◌, ◌≤◌, [], ◌∷◌, length, Some, IsTrue, IsFalse, IfOk};
+ghost use Rattle.std.specs.Prelude.{IfErr};
 ghost use Rattle.mx_words.specs.Need.{fits};
 ghost use Rattle.mx_table.specs.Change.{IsLawful, given, changed};
 ghost use Rattle.mx_table.specs.Tables.{most_words, row_map, IsRow, IsLimit, IsRefused};
@@ -48,7 +49,8 @@ pub fn one_domain<T: PermTables>(
     T::build(alloc, words, &[row], limit)
 }
 
-/// Tables of two domains over 64 KiB of RAM: domain 1 has the first span's permission on its words, and domain 2 the second's.
+/// Tables of two domains over 64 KiB of RAM: domain 1 has the first span's permission on its words, and domain 2 the
+/// second's.
 pub fn two_domains<T: PermTables>(
     alloc: Global,
     first: Span,

@@ -1,7 +1,8 @@
 //! What a walk answers, read from a plain map.
 ghost use Rattle.std.specs.Prelude.{◌≡◌, ◌+◌, ◌-◌, ◌<◌, ◌≤◌, length};
 ghost use Rattle.mx_words.specs.declared.tables.Level.TheVariants as L;
-ghost use Rattle.mx_words.specs.Reach.{first_in, count_in, level, trie_level, span_within, block_span, line_span, left_reach, right_reach, reached, span_at, span};
+ghost use Rattle.mx_words.specs.Reach.{first_in, count_in, level, trie_level, span_within, block_span, line_span};
+ghost use Rattle.mx_words.specs.Reach.{left_reach, right_reach, reached, span_at, span};
 ghost use Rattle.mx_table.specs.Tables.{most_words};
 
 use crate::blocks::{LINE, PAGE, REGION, is_crowded, is_eighth_uniform};

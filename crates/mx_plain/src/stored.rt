@@ -3,7 +3,8 @@ ghost use Rattle.std.specs.Prelude.{◌≡◌, ◌+◌, ◌*◌, ◌/◌, ◌^�
 ghost use Rattle.std.specs.Prelude.{map as list_map};
 ghost use Rattle.mx_words.specs.Rights.{same};
 ghost use Rattle.mx_words.specs.Runs.{runs_of, run_before, line_words};
-ghost use Rattle.mx_words.specs.Reach.{packed, vector, eighths, starts_from, mini_entry, line_entry, shown_block, shown_run, stored};
+ghost use Rattle.mx_words.specs.Reach.{packed, vector, eighths, starts_from, mini_entry, line_entry, shown_block};
+ghost use Rattle.mx_words.specs.Reach.{shown_run, stored};
 ghost use Rattle.mx_table.specs.Tables.{most_words};
 ghost use Rattle.mx_plain.specs.LineRuns.{runs_in, run_number, count_at, IsInLine};
 

@@ -60,7 +60,8 @@ impl PlainKind for AsPacked {
     }
 }
 
-/// The permissions of all domains as plain lists, a word each. Nothing else is stored: what a walk of the tables of a kind answers,
+/// The permissions of all domains as plain lists, a word each. Nothing else is stored: what a walk of the tables of a
+/// kind answers,
 /// what they store and what they need is worked out at each call.
 #[derive(Drop)]
 pub struct PlainTables<K: PlainKind> {

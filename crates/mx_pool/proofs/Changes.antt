@@ -1,9 +1,13 @@
 -- What a write, a take and a give show afterwards, in terms of what the pool showed before.
-use Rattle.std.proofs.Common.{ℕ, ◌≡◌, ◌≢◌, ◌+◌, ◌*◌, ◌-◌, ◌<◌, ◌≤◌, Bool, true, false, not, List, [], None, Some, IsSome, is_none, unwrap_or, length, take, drop, set, replicate, get_or, refl, sym, ◌∙◌, ap, arith, length-take, length-drop, get_or-set_other, get_or-set_same}
+use Rattle.std.proofs.Common.{ℕ, ◌≡◌, ◌≢◌, ◌+◌, ◌*◌, ◌-◌, ◌<◌, ◌≤◌, Bool, true, false, not, List, [], None, Some, IsSome, is_none}
+use Rattle.std.proofs.Common.{unwrap_or, length, take, drop, set, replicate, get_or, refl, sym, ◌∙◌, ap, arith, length-take, length-drop}
+use Rattle.std.proofs.Common.{get_or-set_other, get_or-set_same}
 use Rattle.std.specs.List.{count_by}
 use Rattle.mx_pool.specs.Frames.{Frames}
 use Rattle.mx_pool.specs.Stored.{IsPool, frames_of}
-use Rattle.mx_pool.proofs.StoredFrames.{SameOutside, set_inside, word_shown, is_marked, marked_below, marked_shows, unmarked_shows, shown_elsewhere, zeroed_shows, length-frames_of, free_in-frames_of, count-mark, count-unmark, frame_fits}
+use Rattle.mx_pool.proofs.StoredFrames.{SameOutside, set_inside, word_shown, is_marked, marked_below, marked_shows, unmarked_shows}
+use Rattle.mx_pool.proofs.StoredFrames.{shown_elsewhere, zeroed_shows, length-frames_of, free_in-frames_of, count-mark, count-unmark}
+use Rattle.mx_pool.proofs.StoredFrames.{frame_fits}
 use Rattle.mx_pool.proofs.FreeList.{frame_room, top_within, top_unmarked}
 
 -- two stores, of which the second has words of one frame copied into another, place by place
@@ -27,7 +31,8 @@ module _ (size : ℕ) (ws : List ℕ) (ts : List Bool) (free : List ℕ) (spare 
       get_or (frames_of size us ss) g None ≡ get_or frames g None
   elsewhere f g us ss same ne mark = shown_elsewhere size f g ws us ts ss same ne mark ∙ ap (λ (fs : Frames). get_or fs g None) view
 
-  pub word-now : (f at : ℕ) → IsSome (get_or frames f None) → at < size → get_or (unwrap_or (get_or frames f None) []) at 0 ≡ get_or ws (f * size + at) 0
+  pub word-now : (f at : ℕ) → IsSome (get_or frames f None) → at < size
+      → get_or (unwrap_or (get_or frames f None) []) at 0 ≡ get_or ws (f * size + at) 0
   word-now f at h lt = word_shown size ws ts frames view f at h lt
 
   pub total : (us : List ℕ) (ss : List Bool) → length ss ≡ length ts → length (frames_of size us ss) ≡ length frames
@@ -55,7 +60,8 @@ module _ (size : ℕ) (ws : List ℕ) (ts : List Bool) (free : List ℕ) (spare 
       rw (written_frame f at v h) (get_or-set_same (unwrap_or (get_or frames f None) []) at v 0 long)
 
   pub written_others : (f at v k : ℕ) → IsSome (get_or frames f None) → k ≢ at →
-      get_or (unwrap_or (get_or (frames_of size (set ws (f * size + at) v) ts) f None) []) k 0 ≡ get_or (unwrap_or (get_or frames f None) []) k 0
+      get_or (unwrap_or (get_or (frames_of size (set ws (f * size + at) v) ts) f None) []) k 0
+      ≡ get_or (unwrap_or (get_or frames f None) []) k 0
   written_others f at v k h ne = rw (written_frame f at v h) (get_or-set_other (unwrap_or (get_or frames f None) []) at k v 0 ne)
 
   pub written_free : (us : List ℕ) → count_by is_none (frames_of size us ts) ≡ count_by is_none frames
@@ -67,11 +73,13 @@ module _ (size : ℕ) (ws : List ℕ) (ts : List Bool) (free : List ℕ) (spare 
       let mark : get_or ts f false ≡ true = is_marked size ws ts frames view f h in
       unmarked_shows size ws (set ts f false) f (get_or-set_same ts f false false (marked_below ts f mark))
 
-  pub given_free : (f : ℕ) → IsSome (get_or frames f None) → count_by is_none (frames_of size ws (set ts f false)) ≡ count_by is_none frames + 1
+  pub given_free : (f : ℕ) → IsSome (get_or frames f None) → count_by is_none (frames_of size ws (set ts f false)) ≡ count_by is_none frames
+      + 1
   given_free f h =
       let mark : get_or ts f false ≡ true = is_marked size ws ts frames view f h in
       let more : count_by not (set ts f false) ≡ count_by not ts + 1 = count-unmark ts f (marked_below ts f mark) mark in
-      let new : count_by is_none (frames_of size ws (set ts f false)) ≡ count_by not (set ts f false) = free_in-frames_of size ws (set ts f false) in
+      let new : count_by is_none (frames_of size ws (set ts f false)) ≡ count_by not (set ts f false) =
+      free_in-frames_of size ws (set ts f false) in
       omega (arith, more, new, pool.counted, free_now)
 
   -- the frame on top of the free ones, marked and zeroed
@@ -92,14 +100,16 @@ module _ (size : ℕ) (ws : List ℕ) (ts : List Bool) (free : List ℕ) (spare 
   taken_free f us e some =
       let less : count_by not (set ts f true) + 1 ≡ count_by not ts =
       count-mark ts f (top_within size ws ts free spare pool f e some) (top_unmarked size ws ts free spare pool f e some) in
-      let new : count_by is_none (frames_of size us (set ts f true)) ≡ count_by not (set ts f true) = free_in-frames_of size us (set ts f true) in
+      let new : count_by is_none (frames_of size us (set ts f true)) ≡ count_by not (set ts f true) =
+      free_in-frames_of size us (set ts f true) in
       omega (arith, less, new, pool.counted, free_now)
 
   pub taken_within : (f : ℕ) → f ≡ get_or free (spare - 1) 0 → 0 < spare → f < length frames
   taken_within f e some = rw (← view, length-frames_of) (top_within size ws ts free spare pool f e some)
 
   -- words are copied into a taken frame: what the frames show afterwards
-  module _ (us : List ℕ) (source from target to count : ℕ) (of_source : IsSome (get_or frames source None)) (of_target : IsSome (get_or frames target None))
+  module _ (us : List ℕ) (source from target to count : ℕ) (of_source : IsSome (get_or frames source None))
+      (of_target : IsSome (get_or frames target None))
       (from_room : from + count ≤ size) (to_room : to + count ≤ size) (c : IsCopied size ws us source from target to count) where
     pub copied_taken : IsSome (get_or (frames_of size us ts) target None)
     copied_taken = rw (marked_shows size us ts target (is_marked size ws ts frames view target of_target)) refl
@@ -108,7 +118,8 @@ module _ (size : ℕ) (ws : List ℕ) (ts : List Bool) (free : List ℕ) (spare 
     copied_outside = record { total = c.total; below = λ i h. c.below i (omega arith); behind = λ i h. c.behind i (omega arith) }
 
     pub copied_here : (k : ℕ) → k < count →
-        get_or (unwrap_or (get_or (frames_of size us ts) target None) []) (to + k) 0 ≡ get_or (unwrap_or (get_or frames source None) []) (from + k) 0
+        get_or (unwrap_or (get_or (frames_of size us ts) target None) []) (to + k) 0
+        ≡ get_or (unwrap_or (get_or frames source None) []) (from + k) 0
     copied_here k h =
         let there : target * size + (to + k) ≡ target * size + to + k = omega arith in
         let here : source * size + from + k ≡ source * size + (from + k) = omega arith in
@@ -119,9 +130,11 @@ module _ (size : ℕ) (ws : List ℕ) (ts : List Bool) (free : List ℕ) (spare 
     stays : (k : ℕ) → k < size → get_or us (target * size + k) 0 ≡ get_or ws (target * size + k) 0 →
         get_or (unwrap_or (get_or (frames_of size us ts) target None) []) k 0 ≡ get_or (unwrap_or (get_or frames target None) []) k 0
     stays k h same =
-        word_shown size us ts (frames_of size us ts) refl target k copied_taken h ∙ same ∙ sym (word_shown size ws ts frames view target k of_target h)
+        word_shown size us ts (frames_of size us ts) refl target k copied_taken h ∙ same
+        ∙ sym (word_shown size ws ts frames view target k of_target h)
 
-    pub copied_below : (k : ℕ) → k < to → get_or (unwrap_or (get_or (frames_of size us ts) target None) []) k 0 ≡ get_or (unwrap_or (get_or frames target None) []) k 0
+    pub copied_below : (k : ℕ) → k < to → get_or (unwrap_or (get_or (frames_of size us ts) target None) []) k 0
+        ≡ get_or (unwrap_or (get_or frames target None) []) k 0
     copied_below k h = stays k (omega arith) (c.below (target * size + k) (omega arith))
 
     pub copied_behind : (k : ℕ) → to + count ≤ k → k < size →
@@ -129,7 +142,8 @@ module _ (size : ℕ) (ws : List ℕ) (ts : List Bool) (free : List ℕ) (spare 
     copied_behind k h lt = stays k lt (c.behind (target * size + k) (omega arith))
 
   -- one value is written to places of a taken frame: what the frames show afterwards
-  module _ (us : List ℕ) (f from count value : ℕ) (taken : IsSome (get_or frames f None)) (room : from + count ≤ size) (c : IsFilled size ws us f from count value) where
+  module _ (us : List ℕ) (f from count value : ℕ) (taken : IsSome (get_or frames f None)) (room : from + count ≤ size)
+      (c : IsFilled size ws us f from count value) where
     pub filled_taken : IsSome (get_or (frames_of size us ts) f None)
     filled_taken = rw (marked_shows size us ts f (is_marked size ws ts frames view f taken)) refl
 
@@ -138,13 +152,16 @@ module _ (size : ℕ) (ws : List ℕ) (ts : List Bool) (free : List ℕ) (spare 
 
     pub filled_here : (k : ℕ) → from ≤ k → k < from + count → get_or (unwrap_or (get_or (frames_of size us ts) f None) []) k 0 ≡ value
     filled_here k least most =
-        word_shown size us ts (frames_of size us ts) refl f k filled_taken (omega arith) ∙ c.inside (f * size + k) (omega arith) (omega arith)
+        word_shown size us ts (frames_of size us ts) refl f k filled_taken (omega arith)
+        ∙ c.inside (f * size + k) (omega arith) (omega arith)
 
     kept : (k : ℕ) → k < size → get_or us (f * size + k) 0 ≡ get_or ws (f * size + k) 0 →
         get_or (unwrap_or (get_or (frames_of size us ts) f None) []) k 0 ≡ get_or (unwrap_or (get_or frames f None) []) k 0
-    kept k h same = word_shown size us ts (frames_of size us ts) refl f k filled_taken h ∙ same ∙ sym (word_shown size ws ts frames view f k taken h)
+    kept k h same = word_shown size us ts (frames_of size us ts) refl f k filled_taken h ∙ same
+        ∙ sym (word_shown size ws ts frames view f k taken h)
 
-    pub filled_below : (k : ℕ) → k < from → get_or (unwrap_or (get_or (frames_of size us ts) f None) []) k 0 ≡ get_or (unwrap_or (get_or frames f None) []) k 0
+    pub filled_below : (k : ℕ) → k < from → get_or (unwrap_or (get_or (frames_of size us ts) f None) []) k 0
+        ≡ get_or (unwrap_or (get_or frames f None) []) k 0
     filled_below k h = kept k (omega arith) (c.below (f * size + k) (omega arith))
 
     pub filled_behind : (k : ℕ) → from + count ≤ k → k < size →

@@ -1,5 +1,6 @@
 -- What making a pool, taking, giving and writing leave of what stays true of it.
-use Rattle.std.proofs.Common.{ℕ, zero, suc, ◌≡◌, ◌≢◌, ◌+◌, ◌*◌, ◌-◌, ◌^◌, ◌<◌, ◌≤◌, ⊎_elim, Bool, true, false, not, cond, List, ◌∷◌, length, set, replicate, get_or, None, IsSome, refl, sym, ◌∙◌, arith, length-set, get_or-set_other, get_or-set_same}
+use Rattle.std.proofs.Common.{ℕ, zero, suc, ◌≡◌, ◌≢◌, ◌+◌, ◌*◌, ◌-◌, ◌^◌, ◌<◌, ◌≤◌, ⊎_elim, Bool, true, false, not, cond, List, ◌∷◌, length}
+use Rattle.std.proofs.Common.{set, replicate, get_or, None, IsSome, refl, sym, ◌∙◌, arith, length-set, get_or-set_other, get_or-set_same}
 use Rattle.std.proofs.lemmas.List.{get_or-replicate, length-replicate}
 use Rattle.std.proofs.lemmas.List.Sums.{sum_by-cons, count_by-le-length}
 use Rattle.std.proofs.lemmas.Bool.{cases_lt, cases_eq}
@@ -25,7 +26,8 @@ pool_made size n free small len each = record {
   small = rw (length-replicate n false) small;
   counted = sym (count-replicate n);
   listed = λ i h. rw (length-replicate n false, each i h) (omega arith);
-  unmarked = λ i h. let lt : get_or free i 0 < n = rw (each i h) (omega arith) in get_or-replicate {A = Bool} n (get_or free i 0) false false lt;
+  unmarked = λ i h. let lt : get_or free i 0 < n = rw (each i h) (omega arith) in
+      get_or-replicate {A = Bool} n (get_or free i 0) false false lt;
   apart = λ i j h k e. omega (arith, each i h, each j k, e);
 }
 
@@ -54,7 +56,8 @@ module _ (size : ℕ) (ws : List ℕ) (ts : List Bool) (free : List ℕ) (spare 
         listed = λ i h. rw length-set (pool.listed i (omega arith));
         unmarked = λ i h.
             let below : i < spare = omega arith in
-            let other : get_or free i 0 ≢ f = λ q. let same : i ≡ spare - 1 = pool.apart i (spare - 1) below (omega arith) (q ∙ e) in absurd (omega arith) in
+            let other : get_or free i 0 ≢ f = λ q. let same : i ≡ spare - 1 = pool.apart i (spare - 1) below (omega arith) (q ∙ e) in
+            absurd (omega arith) in
             get_or-set_other ts f (get_or free i 0) true false other ∙ pool.unmarked i below;
         apart = λ i j h k q. pool.apart i j (omega arith) (omega arith) q;
       }
@@ -74,11 +77,14 @@ module _ (size : ℕ) (ws : List ℕ) (ts : List Bool) (free : List ℕ) (spare 
       let within : f < length ts = marked_below ts f h in
       let left : spare < length free = room_left f h in
       let more : count_by not (set ts f false) ≡ count_by not ts + 1 = count-unmark ts f within h in
-      let low : (i : ℕ) → i < spare → get_or (set free spare f) i 0 ≡ get_or free i 0 = λ i b. get_or-set_other free spare i f 0 (λ e. omega arith) in
+      let low : (i : ℕ) → i < spare → get_or (set free spare f) i 0 ≡ get_or free i 0 = λ i b.
+      get_or-set_other free spare i f 0 (λ e. omega arith) in
       let high : get_or (set free spare f) spare 0 ≡ f = get_or-set_same free spare f 0 left in
-      let new : (i : ℕ) → i < spare → get_or free i 0 ≢ f = λ i b e. let mark : get_or ts f false ≡ false = rw e at (pool.unmarked i b) in cc in
+      let new : (i : ℕ) → i < spare → get_or free i 0 ≢ f = λ i b e. let mark : get_or ts f false ≡ false = rw e at (pool.unmarked i b) in
+      cc in
       let unmarked : (i : ℕ) → get_or ts i false ≡ false → get_or (set ts f false) i false ≡ false = λ i e.
-      ⊎_elim (λ same. rw same (get_or-set_same ts f false false within)) (λ ne. get_or-set_other ts f i false false ne ∙ e) (cases_eq i f) in
+      ⊎_elim (λ same. rw same (get_or-set_same ts f false false within)) (λ ne. get_or-set_other ts f i false false ne ∙ e) (cases_eq i f)
+      in
       record {
         room = rw length-set pool.room;
         stack = rw (length-set free spare f, length-set ts f false) pool.stack;
@@ -111,4 +117,5 @@ module _ (size : ℕ) (ws : List ℕ) (ts : List Bool) (free : List ℕ) (spare 
 
   -- the words of a frame that shows words lie in the store
   pub frame_room : (frames : Frames) → frames_of size ws ts ≡ frames → (f : ℕ) → IsSome (get_or frames f None) → f * size + size ≤ length ws
-  frame_room frames view f h = frame_fits size (length ts) (length ws) f pool.room (marked_below ts f (is_marked size ws ts frames view f h))
+  frame_room frames view f h = frame_fits size (length ts) (length ws) f pool.room
+      (marked_below ts f (is_marked size ws ts frames view f h))

@@ -1,5 +1,6 @@
 -- How a pool stores its frames, and what stays true of it.
-use Rattle.std.specs.Prelude.{ℕ, ◌≡◌, ◌<◌, ◌*◌, ◌^◌, Bool, false, not, if◌then◌else◌, List, [], ◌∷◌, None, Some, length, take, drop, slice_index, slice_index_or, count_by}
+use Rattle.std.specs.Prelude.{ℕ, ◌≡◌, ◌<◌, ◌*◌, ◌^◌, Bool, false, not, if◌then◌else◌, List, [], ◌∷◌, None, Some, length, take, drop}
+use Rattle.std.specs.Prelude.{slice_index, slice_index_or, count_by}
 use Rattle.mx_pool.specs.Frames.{Frames}
 
 -- the frames in a flat store: `size` words for each, and none where it is not marked as taken

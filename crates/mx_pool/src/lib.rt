@@ -1,7 +1,8 @@
 //! Frames of words out of one flat store, which the permission tables stand in.
 #![tactic(auto)]
 
-ghost use Rattle.std.specs.Prelude.{◌≡◌, ◌≢◌, ℕ, ◌+◌, ◌-◌, ◌<◌, ◌≤◌, ◌^◌, ◌↔◌, true, false, None, Some, length, replicate, slice_index, slice_set, IsNone, IfSome, IfOk, OnSome, IfNone};
+ghost use Rattle.std.specs.Prelude.{◌≡◌, ◌≢◌, ℕ, ◌+◌, ◌-◌, ◌<◌, ◌≤◌, ◌^◌, ◌↔◌, true, false, None, Some, length};
+ghost use Rattle.std.specs.Prelude.{replicate, slice_index, slice_set, IsNone, IfSome, IfOk, OnSome, IfNone};
 ghost use Rattle.mx_pool.specs.Frames.{frame_at, IsTaken, words_of, word_at, free_in};
 
 use mx_words::NoMemory;
@@ -114,7 +115,8 @@ impl<const WORDS: usize> Pool<WORDS> {
         self.words[frame as usize * WORDS + at as usize] = value;
     }
 
-    /// Copies `count` words from place `from` on of a taken frame to place `to` on of a taken frame. The frames may be the same, and the
+    /// Copies `count` words from place `from` on of a taken frame to place `to` on of a taken frame. The frames may be
+    /// the same, and the
     /// places may overlap.
     pub fn copy(&mut self, source: u32, from: u32, target: u32, to: u32, count: u32)
         requires source { IsTaken self.old source }

@@ -1,5 +1,6 @@
 -- The laws of runs, met by every manifest that boots.
-use Rattle.std.proofs.Common.{◌≡◌, ℕ, zero, suc, ◌-◌, ◌*◌, ◌<◌, List, [], ◌∷◌, Option, Some, None, Ok, refl, sym, subst, slice_index, slice_index_or, replicate, length, arith}
+use Rattle.std.proofs.Common.{◌≡◌, ℕ, zero, suc, ◌-◌, ◌*◌, ◌<◌, List, [], ◌∷◌, Option, Some, None, Ok, refl, sym, subst, slice_index}
+use Rattle.std.proofs.Common.{slice_index_or, replicate, length, arith}
 use Rattle.std.specs.FinMap.{get}
 use Rattle.mx_io.specs.Store.{FileMap}
 use Rattle.mx_words.specs.Caches.{Cache, no_cache}
@@ -9,7 +10,7 @@ use Rattle.mx_manifest.specs.declared.parts.InputPlan.{InputPlan}
 use Rattle.mx_manifest.specs.declared.parts.ModulePlan.{ModulePlan}
 use Rattle.mx_manifest.specs.Plan.{Said}
 use Rattle.mx_coherence.specs.Coherence.{HasEmptyCaches}
-use Rattle.mx_coherence.specs.Spans.{IsEmpty}
+use Rattle.mx_words.specs.KeptSpans.{IsEmpty}
 use Rattle.mx_coherence.proofs.RunLaws.{coherent-run, stale-none}
 use Rattle.mx_boot.specs.Boot.{boot_of, boot_state}
 use Rattle.mx_boot.specs.Faults.{ram_words}
@@ -23,7 +24,8 @@ use Rattle.mx_run.specs.Plainly.{HasFile, IsImage, AreImages, IsInput, AreInputs
 use Rattle.mx_promises.specs.Booted.{AreByteFiles, DeniesExactly, KeepsPromises}
 use Rattle.mx_plan.proofs.Ranges.{judged_in_range}
 
-one-of : (image : List ℕ) (others : List (List ℕ)) (k : ℕ) → slice_index image k < 256 → ((j : ℕ) → slice_index (slice_index_or others j []) k < 256)
+one-of : (image : List ℕ) (others : List (List ℕ)) (k : ℕ) → slice_index image k < 256
+    → ((j : ℕ) → slice_index (slice_index_or others j []) k < 256)
     → (i : ℕ) → slice_index (slice_index_or (image ∷ others) i []) k < 256
 one-of image others k first rest zero = first
 one-of image others k first rest (suc i) = rest i
@@ -33,7 +35,8 @@ module _ (files : FileMap) (bytes : AreByteFiles files) where
   image-bytes None image is k = subst (λ (i : List ℕ). slice_index i k < 256) (sym is) (omega arith)
   image-bytes (Some name) image is k = bytes name image is.stands k
 
-  images-bytes : (ms : List ModulePlan) (images : List (List ℕ)) → AreImages files ms images → (i k : ℕ) → slice_index (slice_index_or images i []) k < 256
+  images-bytes : (ms : List ModulePlan) (images : List (List ℕ)) → AreImages files ms images → (i k : ℕ)
+      → slice_index (slice_index_or images i []) k < 256
   images-bytes [] images are i k = subst (λ (is : List (List ℕ)). slice_index (slice_index_or is i []) k < 256) (sym are) (omega arith)
   images-bytes (m ∷ ms) images are i k =
       subst (λ (is : List (List ℕ)). slice_index (slice_index_or is i []) k < 256) (sym are.2)
@@ -43,7 +46,8 @@ module _ (files : FileMap) (bytes : AreByteFiles files) where
   input-bytes left None input is k = subst (λ (i : List ℕ). slice_index i k < 256) (sym is) (omega arith)
   input-bytes left (Some plan) input is k = bytes plan.file input is.stands k
 
-  inputs-bytes : (ms : List ModulePlan) (left : ℕ) (inputs : List (List ℕ)) → AreInputs files left ms inputs → (i k : ℕ) → slice_index (slice_index_or inputs i []) k < 256
+  inputs-bytes : (ms : List ModulePlan) (left : ℕ) (inputs : List (List ℕ)) → AreInputs files left ms inputs → (i k : ℕ)
+      → slice_index (slice_index_or inputs i []) k < 256
   inputs-bytes [] left inputs are i k = subst (λ (is : List (List ℕ)). slice_index (slice_index_or is i []) k < 256) (sym are) (omega arith)
   inputs-bytes (m ∷ ms) left inputs are i k =
       subst (λ (is : List (List ℕ)). slice_index (slice_index_or is i []) k < 256) (sym are.2)
@@ -74,7 +78,8 @@ empty-at-boot plan images inputs s e =
 denies-exactly : (t : State) → DeniesExactly t
 denies-exactly t = record { test = denied-test t; fetch = fetch-exactly t; load = load-exactly t; store = store-exactly t }
 
-pub booted-keep : (files : FileMap) (name : List ℕ) (plan : Said) (s : State) → AreByteFiles files → Boots files name plan s → (p : Schedule) (n : ℕ) → KeepsPromises s (run p n s)
+pub booted-keep : (files : FileMap) (name : List ℕ) (plan : Said) (s : State) → AreByteFiles files → Boots files name plan s
+    → (p : Schedule) (n : ℕ) → KeepsPromises s (run p n s)
 booted-keep files name plan s bytes b p n =
     let is = boots-is files bytes name plan s b in
     let valid = boots_valid plan b.images b.inputs s is.range is.bytes is.given is.boots in

@@ -37,7 +37,8 @@ pub record DeniesExactly (t : State) : Type 0 where
   pub store : (h base from offset : ℕ) (width : StoreWidth) → Executes t h (Store width base from offset) →
       FaultsExactly t h (address_by t h base offset) (store_size width) A.Write 7 6
 
--- a state of a run from a state at boot: valid, with no stale span in a hart that isn't halted, no domain live that wasn't at boot, every word
+-- a state of a run from a state at boot: valid, with no stale span in a hart that isn't halted, no domain live that wasn't at boot, every
+-- word
 -- of the audit's sealed runs as it was, and denied exactly
 pub record KeepsPromises (s t : State) : Type 0 where
   pub valid : IsFlat (flat t)

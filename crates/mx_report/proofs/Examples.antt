@@ -10,8 +10,10 @@ use Rattle.mx_model.specs.declared.values.Frame.{Frame}
 use Rattle.mx_model.specs.declared.values.Note.TheVariants as N
 use Rattle.mx_model.specs.State.{Hart, State, Status, Running, Waiting, Halted, no_module}
 use Rattle.mx_report.specs.declared.lines.EndState.TheVariants as E
-use Rattle.mx_report.specs.Lines.{fault_line, exit_line, note_line, end_line, hart_text, register_text, registers_line, view_lines, hart_lines, domain_head, map_line, owner_line, tables_line, shown_line, counts_text}
-use Rattle.mx_report.specs.Texts.{map_lines, domain_lines, owner_lines, shown_lines, all_items, table_lines, counts_lines, all_harts, all_domains, asked_lines, closing_of, closing}
+use Rattle.mx_report.specs.Lines.{fault_line, exit_line, note_line, end_line, hart_text, register_text, registers_line, view_lines}
+use Rattle.mx_report.specs.Lines.{hart_lines, domain_head, map_line, owner_line, tables_line, shown_line, counts_text}
+use Rattle.mx_report.specs.Texts.{map_lines, domain_lines, owner_lines, shown_lines, all_items, table_lines, counts_lines, all_harts}
+use Rattle.mx_report.specs.Texts.{all_domains, asked_lines, closing_of, closing}
 use Rattle.mx_tail.specs.Tail.{sent, held}
 
 -- notes: a store into code, and an exit
@@ -59,21 +61,24 @@ zeros n = flat_map (λ (r : ℕ). codes " 00000000") (replicate n 0)
 abbrev regs_shown : List ℕ
 regs_shown = zeros 10 ++ codes " 00000005" ++ zeros 6 ++ codes " 00000001" ++ zeros 14 ++ codes "\n"
 
-hart-halted : hart_lines 0 (hart_with (Halted (Some 5)) []) ≡ codes "hart 0 status=halted domain=1 pc=0x80000008 frames=0\nregs 0" ++ regs_shown
+hart-halted : hart_lines 0 (hart_with (Halted (Some 5)) []) ≡ codes "hart 0 status=halted domain=1 pc=0x80000008 frames=0\nregs 0"
+    ++ regs_shown
 unfolding view_lines hart_text registers_line register_text digits
 hart-halted = refl
 
 abbrev frame : Frame
 frame = record { back = 0; caller = 1; kept = replicate 15 0 }
 
-hart-running : hart_lines 1 (hart_with Running (frame ∷ frame ∷ [])) ≡ codes "hart 1 status=running domain=1 pc=0x80000008 frames=2\nregs 1" ++ regs_shown
+hart-running : hart_lines 1 (hart_with Running (frame ∷ frame ∷ [])) ≡ codes "hart 1 status=running domain=1 pc=0x80000008 frames=2\nregs 1"
+    ++ regs_shown
 unfolding view_lines hart_text registers_line register_text digits
 hart-running = refl
 
 abbrev call : Call
 call = record { number = 3; args = []; hart = 0; domain = 1; nested = false }
 
-hart-waiting : hart_lines 0 (hart_with (Waiting call []) []) ≡ codes "hart 0 status=waiting domain=1 pc=0x80000008 frames=0\nregs 0" ++ regs_shown
+hart-waiting : hart_lines 0 (hart_with (Waiting call []) []) ≡ codes "hart 0 status=waiting domain=1 pc=0x80000008 frames=0\nregs 0"
+    ++ regs_shown
 unfolding view_lines hart_text registers_line register_text digits
 hart-waiting = refl
 
@@ -88,7 +93,8 @@ domain-shown : domain_lines 1 (codes "m") false code_map ≡ codes "domain 1 m\n
 unfolding domain_lines domain_head map_lines map_line digits
 domain-shown = refl
 
-dead-shown : domain_lines 2 (codes "b") true (cells ((1, P.ExecuteRead) ∷ (7, P.None) ∷ [])) ≡ codes "domain 2 b dead\nmap 2 0x80000000 0x80000004 rx\n"
+dead-shown : domain_lines 2 (codes "b") true (cells ((1, P.ExecuteRead) ∷ (7, P.None) ∷ []))
+    ≡ codes "domain 2 b dead\nmap 2 0x80000000 0x80000004 rx\n"
 unfolding domain_lines domain_head map_lines map_line digits
 dead-shown = refl
 
@@ -168,15 +174,19 @@ abbrev counts_told : List ℕ
 counts_told = codes "counts 0 sidecar=2 lookaside=0 walks=1\n"
 
 closing-alone : closing (codes "m" ∷ []) E.Halted (record { tables = false; counts = false }) three_words ≡ always_shown
-unfolding closing_of asked_lines end_line all_harts view_lines hart_text registers_line register_text all_domains domain_lines domain_head map_lines map_line owner_lines owner_line digits
+unfolding closing_of asked_lines end_line all_harts view_lines hart_text registers_line register_text all_domains domain_lines domain_head
+    map_lines map_line owner_lines owner_line digits
 closing-alone = refl
 
 closing-with-tables : closing (codes "m" ∷ []) E.Halted (record { tables = true; counts = false }) three_words ≡ always_shown ++ tables_told
-unfolding closing_of asked_lines end_line all_harts view_lines hart_text registers_line register_text all_domains domain_lines domain_head map_lines map_line owner_lines owner_line table_lines tables_line all_items shown_lines shown_line digits
+unfolding closing_of asked_lines end_line all_harts view_lines hart_text registers_line register_text all_domains domain_lines domain_head
+    map_lines map_line owner_lines owner_line table_lines tables_line all_items shown_lines shown_line digits
 closing-with-tables = refl
 
-closing-with-both : closing (codes "m" ∷ []) E.Halted (record { tables = true; counts = true }) three_words ≡ always_shown ++ tables_told ++ counts_told
-unfolding closing_of asked_lines end_line all_harts view_lines hart_text registers_line register_text all_domains domain_lines domain_head map_lines map_line owner_lines owner_line table_lines tables_line all_items shown_lines shown_line counts_lines counts_text digits
+closing-with-both : closing (codes "m" ∷ []) E.Halted (record { tables = true; counts = true }) three_words ≡ always_shown ++ tables_told
+    ++ counts_told
+unfolding closing_of asked_lines end_line all_harts view_lines hart_text registers_line register_text all_domains domain_lines domain_head
+    map_lines map_line owner_lines owner_line table_lines tables_line all_items shown_lines shown_line counts_lines counts_text digits
 closing-with-both = refl
 
 -- two domains and two harts, each with its own lines
@@ -196,7 +206,8 @@ two-of-each : closing (codes "a" ∷ codes "b" ∷ []) E.Steps (record { tables 
     ++ codes "domain 1 a\nmap 1 0x80000000 0x8000000c rx\ndomain 2 b dead\nmap 2 0x80000040 0x80000044 r\nowner 0x80000000 0x8000000c 1\n"
     ++ codes "tables kind=packed upper=4/128 leaf=2/4096 spill=0/4096\nshown 1 leaf 0x80000000 0x07c00c0e\nshown 2 leaf 0x80000040 0x04000406\n"
     ++ codes "counts 0 sidecar=0 lookaside=0 walks=0\ncounts 1 sidecar=0 lookaside=4 walks=0\n"
-unfolding closing_of asked_lines end_line all_harts view_lines hart_text registers_line register_text all_domains domain_lines domain_head map_lines map_line owner_lines owner_line table_lines tables_line all_items shown_lines shown_line counts_lines counts_text digits
+unfolding closing_of asked_lines end_line all_harts view_lines hart_text registers_line register_text all_domains domain_lines domain_head
+    map_lines map_line owner_lines owner_line table_lines tables_line all_items shown_lines shown_line counts_lines counts_text digits
 two-of-each = refl
 
 -- what is held: fewer bytes than a piece, a piece, and one byte more

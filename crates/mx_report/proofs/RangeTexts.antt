@@ -4,7 +4,8 @@ use Rattle.std.proofs.Math.ListN.{get_or-map}
 use Rattle.std.specs.List.{range_with_len}
 
 -- numbers without a text
-pub range_blank : (f : ℕ → List ℕ) (a k n : ℕ) → ((j : ℕ) → a ≤ j → j < a + k → f j ≡ []) → flat_map f (range_with_len a (k + n)) ≡ flat_map f (range_with_len (a + k) n)
+pub range_blank : (f : ℕ → List ℕ) (a k n : ℕ) → ((j : ℕ) → a ≤ j → j < a + k → f j ≡ [])
+    → flat_map f (range_with_len a (k + n)) ≡ flat_map f (range_with_len (a + k) n)
 range_blank f a zero n blank =
     let e : a ≡ a + 0 = omega arith in
     let none : 0 + n ≡ n = omega arith in
@@ -17,7 +18,8 @@ range_blank f a (suc k) n blank =
     ∙ range_blank f (a + 1) k n (λ j lo hi. blank j (omega arith) (omega arith)) ∙ ap (λ j. flat_map f (range_with_len j n)) e
 
 -- what is said of place i of a list, at the number i + 1
-pub at_number : {X : Type 0} (f : X → List ℕ) (xs : List X) (i : ℕ) (d : X) → f d ≡ [] → f (get_or xs i d) ≡ get_or (map f xs) (i + 1 - 1) []
+pub at_number : {X : Type 0} (f : X → List ℕ) (xs : List X) (i : ℕ) (d : X) → f d ≡ []
+    → f (get_or xs i d) ≡ get_or (map f xs) (i + 1 - 1) []
 at_number f xs i d e =
     let back : i ≡ i + 1 - 1 = omega arith in
     sym (get_or-map f xs i d) ∙ ap (get_or (map f xs) i) e ∙ ap (λ j. get_or (map f xs) j []) back

@@ -12,5 +12,6 @@ told status domain pc frames regs = record { status = status; domain = domain; p
 pub view_is : (x : Hart) (v : HartView) → IsViewOf x v → v ≡ view_of x
 view_is x v t =
     ap (λ s. told s v.domain v.pc v.frames v.regs) t.status ∙ ap (λ d. told (status_told x.status) d v.pc v.frames v.regs) t.domain
-    ∙ ap (λ p. told (status_told x.status) x.domain p v.frames v.regs) t.pc ∙ ap (λ f. told (status_told x.status) x.domain x.pc f v.regs) t.frames
+    ∙ ap (λ p. told (status_told x.status) x.domain p v.frames v.regs) t.pc
+    ∙ ap (λ f. told (status_told x.status) x.domain x.pc f v.regs) t.frames
     ∙ ap (told (status_told x.status) x.domain x.pc (length x.frames)) t.regs

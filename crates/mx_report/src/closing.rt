@@ -2,7 +2,8 @@
 ghost use Rattle.std.specs.Prelude.{◌≡◌, ℕ, List, length, map};
 ghost use Rattle.mx_model.specs.State.{State, flat};
 ghost use Rattle.mx_tail.specs.Tail.{Passes};
-ghost use Rattle.mx_report.specs.Texts.{all_harts, all_domains, asked_lines, closing, flat_closing, flat_told, tables_asked, counts_asked};
+ghost use Rattle.mx_report.specs.Texts.{all_harts, all_domains, asked_lines, closing, flat_closing, flat_told};
+ghost use Rattle.mx_report.specs.Texts.{tables_asked, counts_asked};
 ghost use Rattle.mx_report.specs.declared.lines.EndState.{EndState as End};
 ghost use Rattle.mx_report.specs.declared.closing.Options.{Options as Asked};
 
@@ -25,7 +26,8 @@ pub struct Options {
     pub counts: bool,
 }
 
-/// Puts the closing lines of a run's report through a buffer. The names are those of the modules in order. The kind is that of the
+/// Puts the closing lines of a run's report through a buffer. The names are those of the modules in order. The kind is
+/// that of the
 /// tables, and the limit theirs.
 pub fn put_closing<R: Sink, T: PermTables, const N: usize>(
     tail: &mut Tail,
@@ -133,7 +135,8 @@ fn put_asked_counts<R: Sink, T: PermTables, const N: usize>(
     }
 }
 
-/// A law: the closing lines of a state, by its lists of grants and gives, are those of its flat state, by its maps and owners.
+/// A law: the closing lines of a state, by its lists of grants and gives, are those of its flat state, by its maps and
+/// owners.
 pub fn closing_of_a_flat_state()
     ensures { (names : List (List ℕ)) (end : End) (options : Asked) (s : State) →
         closing names end options s ≡ flat_closing names end options (flat s) }

@@ -2,7 +2,8 @@
 ghost use Rattle.std.specs.Prelude.{◌≡◌, ◌<◌, ℕ, List, [], length, flat_map};
 ghost use Rattle.mx_io.specs.Sink.{Puts, SinkState};
 ghost use Rattle.mx_tail.specs.Tail.{Passes, piece_bytes};
-ghost use Rattle.mx_report.specs.Lines.{fault_line, exit_line, note_line, end_name, end_line, status_name, hart_text, register_text, registers_line, view_lines};
+ghost use Rattle.mx_report.specs.Lines.{fault_line, exit_line, note_line, end_name, end_line, status_name, hart_text};
+ghost use Rattle.mx_report.specs.Lines.{register_text, registers_line, view_lines};
 
 use crate::{Tail, put_pieces};
 use mx_io::{Failed, Piece, Sink};

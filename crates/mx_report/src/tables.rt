@@ -6,7 +6,8 @@ ghost use Rattle.mx_words.specs.Ranges.{most_words};
 ghost use Rattle.mx_model.specs.Valid.{IsModule};
 ghost use Rattle.mx_tail.specs.Tail.{Passes};
 ghost use Rattle.mx_report.specs.Lines.{kind_name, tables_line, level_name, shown_line, counts_text};
-ghost use Rattle.mx_report.specs.Texts.{all_items, counts_lines, domain_map, flat_told, has_rights, shown_lines, shown_text, table_lines};
+ghost use Rattle.mx_report.specs.Texts.{all_items, counts_lines, domain_map, flat_told, has_rights, shown_lines};
+ghost use Rattle.mx_report.specs.Texts.{shown_text, table_lines};
 
 use crate::lines::end_lines;
 use crate::words::address;
@@ -17,7 +18,8 @@ use mx_machine::{Machine, machine_is_valid};
 use mx_table::PermTables;
 use mx_words::{Kind, Level, Need, Perm, Shown};
 
-/// Puts the line of what the tables take, with the name of their kind and their limit, and a line for each of their stored items
+/// Puts the line of what the tables take, with the name of their kind and their limit, and a line for each of their
+/// stored items
 /// that has a word of RAM with a permission.
 pub fn table_lines<R: Sink, T: PermTables, const N: usize>(
     sink: &mut R,

@@ -1,5 +1,6 @@
 -- The parts that a valid snapshot gives, as the calls ask for them with which its machine goes on.
-use Rattle.std.proofs.Common.{◌≡◌, ◌≢◌, ℕ, ◌%◌, ◌<◌, ◌≤◌, ◌⊎◌, ⊎_elim, Bool, true, ◌==◌, All, IsTrue, List, [], ◌∷◌, length, Ok, Err, refl, sym, ap, ◌∙◌, subst, arith, if◌then◌else◌}
+use Rattle.std.proofs.Common.{◌≡◌, ◌≢◌, ℕ, ◌%◌, ◌<◌, ◌≤◌, ◌⊎◌, ⊎_elim, Bool, true, ◌==◌, All, IsTrue, List, [], ◌∷◌, length, Ok, Err, refl}
+use Rattle.std.proofs.Common.{sym, ap, ◌∙◌, subst, arith, if◌then◌else◌}
 use Rattle.std.proofs.Common.{map as list_map}
 use Rattle.std.specs.List.{AllByRecursion}
 use Rattle.std.proofs.lemmas.Bool.{and_parts}
@@ -60,7 +61,8 @@ parts-hold p a = (
   subst (λ (q : Parts). AllByRecursion (IsGate (length q.maps) q.size) q.gates) (sym a.same) (gates-fit a.snapshot a.valid),
 )
 
-module _ (s : Stored) (p : Parts) (states : List HartState) (stacks : List StackArea) (dead : List Bool) (turns : ℕ) (from : GoesFrom s p states stacks dead turns) where
+module _ (s : Stored) (p : Parts) (states : List HartState) (stacks : List StackArea) (dead : List Bool) (turns : ℕ)
+    (from : GoesFrom s p states stacks dead turns) where
   parts-given : AreParts p
   parts-given = record { snapshot = s; valid = from.valid; same = from.same_parts }
 
@@ -103,45 +105,58 @@ row-fit : (h : Head) (before : List StoredModule) (m : StoredModule) → IsStore
 row-fit h before m is =
     let all = map-words h before m is in
     row-fits m.map h.words
-    (each_holds (λ others (r : Run Perm). is_next_run h.words (length m.map) others r ≡ true) (λ (r : Run Perm). 0 < r.count) (next-count h.words (length m.map)) m.map [] is.map)
+    (each_holds (λ others (r : Run Perm). is_next_run h.words (length m.map) others r ≡ true) (λ (r : Run Perm). 0 < r.count)
+    (next-count h.words (length m.map)) m.map [] is.map)
     (omega (arith, all))
 
-pub rows-count : (s : Stored) → IsStored s → (h : code_head.Head) (rows : List (List Span)) → head_seen h ≡ s.head → rows ≡ list_map row_in s.modules → length rows ≡ h.modules
+pub rows-count : (s : Stored) → IsStored s → (h : code_head.Head) (rows : List (List Span)) → head_seen h ≡ s.head
+    → rows ≡ list_map row_in s.modules → length rows ≡ h.modules
 rows-count s f h rows e r = ap length r ∙ length-map s.modules row_in ∙ f.module_count ∙ sym (ap (λ (x : Head). x.modules) e)
 
-pub rows-fit : (s : Stored) → IsStored s → (h : code_head.Head) (rows : List (List Span)) → head_seen h ≡ s.head → rows ≡ list_map row_in s.modules → All (IsRow h.words) rows
+pub rows-fit : (s : Stored) → IsStored s → (h : code_head.Head) (rows : List (List Span)) → head_seen h ≡ s.head
+    → rows ≡ list_map row_in s.modules → All (IsRow h.words) rows
 rows-fit s f h rows e r =
-    let each = each_holds (IsStoredModule s.head) (λ (m : StoredModule). IsRow s.head.words (row_in m)) (row-fit s.head) s.modules [] f.modules in
-    let all : All (IsRow s.head.words) (list_map row_in s.modules) = All-from_recursion (IsRow s.head.words) (list_map row_in s.modules) (all_mapped row_in (IsRow s.head.words) s.modules each) in
+    let each = each_holds (IsStoredModule s.head) (λ (m : StoredModule). IsRow s.head.words (row_in m)) (row-fit s.head) s.modules []
+    f.modules in
+    let all : All (IsRow s.head.words) (list_map row_in s.modules) =
+    All-from_recursion (IsRow s.head.words) (list_map row_in s.modules) (all_mapped row_in (IsRow s.head.words) s.modules each) in
     let one : All (IsRow s.head.words) rows = subst (λ (xs : List (List Span)). All (IsRow s.head.words) xs) (sym r) all in
     subst (λ (n : ℕ). All (IsRow n) rows) (sym (ap (λ (x : Head). x.words) e)) one
 
-maps-same : (words : ℕ) (ms : List StoredModule) → list_map (row_map words) (list_map row_in ms) ≡ list_map (λ (m : StoredModule). map (laid_runs 0 m.map) words) ms
+maps-same : (words : ℕ) (ms : List StoredModule) → list_map (row_map words) (list_map row_in ms)
+    ≡ list_map (λ (m : StoredModule). map (laid_runs 0 m.map) words) ms
 maps-same words [] = refl
 maps-same words (m ∷ ms) =
     ap (λ (xs : List (List Perm)). row_map words (row_in m) ∷ xs) (maps-same words ms)
     ∙ ap (λ (x : List Perm). x ∷ list_map (λ (k : StoredModule). map (laid_runs 0 k.map) words) ms) (row-same m.map words)
 
-pub rows-maps : (s : Stored) (h : code_head.Head) (rows : List (List Span)) → head_seen h ≡ s.head → rows ≡ list_map row_in s.modules → list_map (row_map h.words) rows ≡ (parts_in s).maps
+pub rows-maps : (s : Stored) (h : code_head.Head) (rows : List (List Span)) → head_seen h ≡ s.head → rows ≡ list_map row_in s.modules
+    → list_map (row_map h.words) rows ≡ (parts_in s).maps
 rows-maps s h rows e r =
-    ap (list_map (row_map h.words)) r ∙ ap (λ (n : ℕ). list_map (row_map n) (list_map row_in s.modules)) (ap (λ (x : Head). x.words) e) ∙ maps-same s.head.words s.modules
+    ap (list_map (row_map h.words)) r ∙ ap (λ (n : ℕ). list_map (row_map n) (list_map row_in s.modules)) (ap (λ (x : Head). x.words) e)
+    ∙ maps-same s.head.words s.modules
 
 -- the need of the maps
-maps-flat : (words : ℕ) (ms : List StoredModule) → list_map (λ gs. map gs words) (list_map (λ (m : StoredModule). laid_runs 0 m.map) ms) ≡ list_map (λ (m : StoredModule). map (laid_runs 0 m.map) words) ms
+maps-flat : (words : ℕ) (ms : List StoredModule) → list_map (λ gs. map gs words) (list_map (λ (m : StoredModule). laid_runs 0 m.map) ms)
+    ≡ list_map (λ (m : StoredModule). map (laid_runs 0 m.map) words) ms
 maps-flat words [] = refl
 maps-flat words (m ∷ ms) = ap (λ (xs : List (List Perm)). map (laid_runs 0 m.map) words ∷ xs) (maps-flat words ms)
 
-pub needs-same : (s : Stored) (kind : Kind) (maps : List (List Perm)) → kind ≡ s.head.kind → maps ≡ (parts_in s).maps → need kind maps ≡ stored_need s
+pub needs-same : (s : Stored) (kind : Kind) (maps : List (List Perm)) → kind ≡ s.head.kind → maps ≡ (parts_in s).maps
+    → need kind maps ≡ stored_need s
 needs-same s kind maps k m = ap (λ (x : Kind). need x maps) k ∙ ap (need s.head.kind) (m ∙ sym (maps-flat s.head.words s.modules))
 
-judged : (s : Stored) (kind : Kind) (limit : Need) (maps : List (List Perm)) → kind ≡ s.head.kind → limit ≡ s.head.limit → maps ≡ (parts_in s).maps → within (need kind maps) limit ≡ within (stored_need s) s.head.limit
+judged : (s : Stored) (kind : Kind) (limit : Need) (maps : List (List Perm)) → kind ≡ s.head.kind → limit ≡ s.head.limit
+    → maps ≡ (parts_in s).maps → within (need kind maps) limit ≡ within (stored_need s) s.head.limit
 judged s kind limit maps k l m = ap (λ (x : Need). within x limit) (needs-same s kind maps k m) ∙ ap (within (stored_need s)) l
 
-pub maps-fit : (s : Stored) (kind : Kind) (limit : Need) (maps : List (List Perm)) → kind ≡ s.head.kind → limit ≡ s.head.limit → maps ≡ (parts_in s).maps → IsTrue (fits kind limit maps) → fitting s ≡ Ok s
+pub maps-fit : (s : Stored) (kind : Kind) (limit : Need) (maps : List (List Perm)) → kind ≡ s.head.kind → limit ≡ s.head.limit
+    → maps ≡ (parts_in s).maps → IsTrue (fits kind limit maps) → fitting s ≡ Ok s
 maps-fit s kind limit maps k l m is =
     ap (λ (b : Bool). if b then Ok s else Err (NeedsMore (stored_need s) s.head.limit)) (sym (judged s kind limit maps k l m) ∙ is)
 
-pub overfull : (s : Stored) (kind : Kind) (limit : Need) (maps : List (List Perm)) (refused : SnapshotRefused) → kind ≡ s.head.kind → limit ≡ s.head.limit → maps ≡ (parts_in s).maps → IsOverfull kind limit maps refused → IsRefusedBy (fitting s) refused
+pub overfull : (s : Stored) (kind : Kind) (limit : Need) (maps : List (List Perm)) (refused : SnapshotRefused) → kind ≡ s.head.kind
+    → limit ≡ s.head.limit → maps ≡ (parts_in s).maps → IsOverfull kind limit maps refused → IsRefusedBy (fitting s) refused
 overfull s kind limit maps (Fault at number) k l m is = absurd is
 overfull s kind limit maps (TablesFull needed told) k l m is =
     let same : needed ≡ stored_need s = is.0 ∙ needs-same s kind maps k m in
@@ -154,57 +169,95 @@ overfull s kind limit maps NoMemory k l m is = tt
 at_most : (n : ℕ) → (n ≡ 8) ⊎ (n ≡ 32) ⊎ (n ≡ 64) → n ≤ 64
 at_most n e = ⊎_elim
     (λ (a : n ≡ 8). (let r : n ≤ 64 = omega (arith, a) in r))
-    (λ (o : (n ≡ 32) ⊎ (n ≡ 64)). ⊎_elim (λ (b : n ≡ 32). (let r : n ≤ 64 = omega (arith, b) in r)) (λ (d : n ≡ 64). (let r : n ≤ 64 = omega (arith, d) in r)) o)
+    (λ (o : (n ≡ 32) ⊎ (n ≡ 64)). ⊎_elim (λ (b : n ≡ 32). (let r : n ≤ 64 = omega (arith, b) in r)) (λ (d : n ≡ 64).
+    (let r : n ≤ 64 = omega (arith, d) in r)) o)
     e
 
-module _ (s : Stored) (x : code_head.Head) (rows : List (List Span)) (flown : ResumingHarts) (ram owners : List ℕ) (gates : List Gate) (heaps : List HeapState) (a : GivesParts s x rows flown ram owners gates heaps) where
+module _ (s : Stored) (x : code_head.Head) (rows : List (List Span)) (flown : ResumingHarts) (ram owners : List ℕ) (gates : List Gate)
+    (heaps : List HeapState) (a : GivesParts s x rows flown ram owners gates heaps) where
   pub may-fly : (words buffer : ℕ) → words ≡ x.words → buffer ≡ x.lookaside → MayFly words buffer x flown.flights
   may-fly words buffer w b =
       let f = a.valid in
-      let one = subst (λ (k : ℕ). All (IsResumable k s.head.words) (flights_in s)) (f.hart_count ∙ sym (ap (λ (h : Head). h.harts) a.same_head)) (flights-fit s f) in
+      let one = subst (λ (k : ℕ). All (IsResumable k s.head.words) (flights_in s)) (f.hart_count
+      ∙ sym (ap (λ (h : Head). h.harts) a.same_head)) (flights-fit s f) in
       let two = subst (λ (k : ℕ). All (IsResumable x.harts k) (flights_in s)) (sym (w ∙ ap (λ (h : Head). h.words) a.same_head)) one in
       let small = at_most s.head.lookaside (stored-kept s f).lookaside in
       let same : buffer ≡ s.head.lookaside = b ∙ ap (λ (h : Head). h.lookaside) a.same_head in
       record {
         size = omega (arith, small, same);
         few = (bounds-of s f x a.same_head).few_harts;
-        each = subst (λ (fs : List Flight). All (IsResumable x.harts words) fs) (sym (ap (λ (y : ResumingHarts). y.flights) a.same_harts)) two;
+        each = subst (λ (fs : List Flight). All (IsResumable x.harts words) fs) (sym (ap (λ (y : ResumingHarts). y.flights) a.same_harts))
+            two;
       }
 
   pub joined : (kind : Kind) (maps : List (List Perm)) (size : ℕ) (limit : Need) (buffer : ℕ) (harts : List Kept)
-      → kind ≡ x.kind → maps ≡ list_map (row_map x.words) rows → size ≡ x.words → limit ≡ x.limit → buffer ≡ x.lookaside → harts ≡ waiting_harts flown.flights x.harts
-      → (let p : Parts = record { kind = kind; maps = maps; size = size; limit = limit; buffer = buffer; harts = harts; ram = ram; owners = owners; gates = gates; heaps = heaps } in p) ≡ parts_in s
+      → kind ≡ x.kind → maps ≡ list_map (row_map x.words) rows → size ≡ x.words → limit ≡ x.limit → buffer ≡ x.lookaside
+      → harts ≡ waiting_harts flown.flights x.harts
+      → (let p : Parts = record {
+        kind = kind;
+        maps = maps;
+        size = size;
+        limit = limit;
+        buffer = buffer;
+        harts = harts;
+        ram = ram;
+        owners =
+            owners;
+        gates = gates;
+        heaps = heaps;
+      } in p) ≡ parts_in s
   joined kind maps size limit buffer harts k m n l b h =
       same kind maps size limit buffer harts ram owners gates heaps
-      (k ∙ ap (λ (y : Head). y.kind) a.same_head) (m ∙ rows-maps s x rows a.same_head a.same_rows) (n ∙ ap (λ (y : Head). y.words) a.same_head) (l ∙ ap (λ (y : Head). y.limit) a.same_head) (b ∙ ap (λ (y : Head). y.lookaside) a.same_head)
-      (h ∙ ap (λ (y : ResumingHarts). waiting_harts y.flights x.harts) a.same_harts ∙ ap (waiting_harts (flights_in s)) (ap (λ (y : Head). y.harts) a.same_head ∙ sym a.valid.hart_count))
+      (k ∙ ap (λ (y : Head). y.kind) a.same_head) (m ∙ rows-maps s x rows a.same_head a.same_rows) (n
+      ∙ ap (λ (y : Head). y.words) a.same_head) (l ∙ ap (λ (y : Head). y.limit) a.same_head) (b
+      ∙ ap (λ (y : Head). y.lookaside) a.same_head)
+      (h ∙ ap (λ (y : ResumingHarts). waiting_harts y.flights x.harts) a.same_harts
+      ∙ ap (waiting_harts (flights_in s)) (ap (λ (y : Head). y.harts) a.same_head ∙ sym a.valid.hart_count))
       a.same_ram a.same_owners a.same_gates a.same_heaps
     where
-      same : (kind : Kind) (maps : List (List Perm)) (size : ℕ) (limit : Need) (buffer : ℕ) (harts : List Kept) (ram owners : List ℕ) (gates : List Gate) (heaps : List HeapState)
-          → kind ≡ (parts_in s).kind → maps ≡ (parts_in s).maps → size ≡ (parts_in s).size → limit ≡ (parts_in s).limit → buffer ≡ (parts_in s).buffer → harts ≡ (parts_in s).harts
+      same : (kind : Kind) (maps : List (List Perm)) (size : ℕ) (limit : Need) (buffer : ℕ) (harts : List Kept) (ram owners : List ℕ)
+          (gates : List Gate) (heaps : List HeapState)
+          → kind ≡ (parts_in s).kind → maps ≡ (parts_in s).maps → size ≡ (parts_in s).size → limit ≡ (parts_in s).limit
+          → buffer ≡ (parts_in s).buffer → harts ≡ (parts_in s).harts
           → ram ≡ (parts_in s).ram → owners ≡ (parts_in s).owners → gates ≡ (parts_in s).gates → heaps ≡ (parts_in s).heaps
-          → (let p : Parts = record { kind = kind; maps = maps; size = size; limit = limit; buffer = buffer; harts = harts; ram = ram; owners = owners; gates = gates; heaps = heaps } in p) ≡ parts_in s
-      same kind maps size limit buffer harts ram owners gates heaps e1 e2 e3 e4 e5 e6 e7 e8 e9 e10 = rw (e1, e2, e3, e4, e5, e6, e7, e8, e9, e10) refl
+          → (let p : Parts = record {
+            kind = kind;
+            maps = maps;
+            size = size;
+            limit = limit;
+            buffer = buffer;
+            harts = harts;
+            ram = ram;
+            owners = owners;
+            gates = gates;
+            heaps = heaps;
+          } in p) ≡ parts_in s
+      same kind maps size limit buffer harts ram owners gates heaps e1 e2 e3 e4 e5 e6 e7 e8 e9 e10 =
+          rw (e1, e2, e3, e4, e5, e6, e7, e8, e9, e10) refl
 
 -- a supervisor over tables that are built of such rows
-module _ {T : Type 0} (tables : Ghosts T) (buffer : ℕ) (s : Stored) (x : code_head.Head) (rows : List (List Span)) (flown : ResumingHarts) (ram owners : List ℕ) (gates : List Gate) (heaps : List HeapState)
+module _ {T : Type 0} (tables : Ghosts T) (buffer : ℕ) (s : Stored) (x : code_head.Head) (rows : List (List Span)) (flown : ResumingHarts)
+    (ram owners : List ℕ) (gates : List Gate) (heaps : List HeapState)
     (a : GivesParts s x rows flown ram owners gates heaps) (t : T)
-    (k : tables.kind ≡ x.kind) (m : tables.maps t ≡ list_map (row_map x.words) rows) (w : tables.size t ≡ x.words) (l : tables.limits t ≡ x.limit) (b : buffer ≡ x.lookaside)
-    (checker : Checks T) (checks : checker ≡ (let c : Checks T = record { tables = t; harts = waiting_harts flown.flights x.harts } in c)) where
-  abbrev over : Supervisor T buffer
-  over = record { checker = checker; ram = ram; owners = owners; gates = gates; heaps = heaps }
+    (k : tables.kind ≡ x.kind) (m : tables.maps t ≡ list_map (row_map x.words) rows) (w : tables.size t ≡ x.words)
+    (l : tables.limits t ≡ x.limit) (b : buffer ≡ x.lookaside)
+    (checker : Checks T) (checks : checker ≡ (let c : Checks T = record { tables = t; harts = waiting_harts flown.flights x.harts } in c))
+  where
+    abbrev over : Supervisor T buffer
+    over = record { checker = checker; ram = ram; owners = owners; gates = gates; heaps = heaps }
 
-  parts-over : parts_of tables over ≡ parts_in s
-  parts-over =
-      let e : checker.tables ≡ t = ap (λ (c : Checks T). c.tables) checks in
-      joined s x rows flown ram owners gates heaps a tables.kind (tables.maps checker.tables) (tables.size checker.tables) (tables.limits checker.tables) buffer checker.harts
-      k (ap tables.maps e ∙ m) (ap tables.size e ∙ w) (ap tables.limits e ∙ l) b (ap (λ (c : Checks T). c.harts) checks)
+    parts-over : parts_of tables over ≡ parts_in s
+    parts-over =
+        let e : checker.tables ≡ t = ap (λ (c : Checks T). c.tables) checks in
+        joined s x rows flown ram owners gates heaps a tables.kind (tables.maps checker.tables) (tables.size checker.tables)
+        (tables.limits checker.tables) buffer checker.harts
+        k (ap tables.maps e ∙ m) (ap tables.size e ∙ w) (ap tables.limits e ∙ l) b (ap (λ (c : Checks T). c.harts) checks)
 
-  pub are-parts : AreParts (parts_of tables over)
-  are-parts = record { snapshot = s; valid = a.valid; same = parts-over }
+    pub are-parts : AreParts (parts_of tables over)
+    are-parts = record { snapshot = s; valid = a.valid; same = parts-over }
 
-  pub parts-joined : (p : Supervisor T buffer) → p ≡ over → parts_of tables p ≡ parts_in s
-  parts-joined p e = ap (λ (y : Supervisor T buffer). parts_of tables y) e ∙ parts-over
+    pub parts-joined : (p : Supervisor T buffer) → p ≡ over → parts_of tables p ≡ parts_in s
+    parts-joined p e = ap (λ (y : Supervisor T buffer). parts_of tables y) e ∙ parts-over
 
 -- what is held may be joined
 pub may-join : (x : Held) → IsHeld x → MayJoin x.head x.rows.items x.harts x.ram x.owners x.gates x.heaps

@@ -17,29 +17,34 @@ left_all item bytes n start = let all : n - 0 ≡ n = omega arith in record { sa
 one_more : (n i : ℕ) → i < n → n - i ≡ suc (n - (i + 1))
 one_more n i lt = omega (arith, lt)
 
-pub left_here : {A : Type 0} (item : List A → Reader A) (bytes : List ℕ) (n start i : ℕ) (before : List A) (at : ℕ) → i < n → Left item bytes n start i before at →
+pub left_here : {A : Type 0} (item : List A → Reader A) (bytes : List ℕ) (n start i : ℕ) (before : List A) (at : ℕ) → i < n
+    → Left item bytes n start i before at →
     goes_on (λ a. list_of (n - (i + 1)) item (before ++ a ∷ [])) bytes (item before bytes at) ≡ list_of n item [] bytes start
 left_here item bytes n start i before at lt l = sym (ap (λ (k : ℕ). list_of k item before bytes at) (one_more n i lt)) ∙ l.same
 
-pub left_next : {A : Type 0} {item : List A → Reader A} {bytes : List ℕ} {n start i : ℕ} {before : List A} {at now : ℕ} {a : A} → i < n → Left item bytes n start i before at → item before bytes at ≡ Took a now →
+pub left_next : {A : Type 0} {item : List A → Reader A} {bytes : List ℕ} {n start i : ℕ} {before : List A} {at now : ℕ} {a : A} → i < n
+    → Left item bytes n start i before at → item before bytes at ≡ Took a now →
     Left item bytes n start (i + 1) (before ++ a ∷ []) now
 left_next {item = item} {bytes = bytes} {n = n} {start = start} {i = i} {before = before} {at = at} lt l e = record {
   same = sym (ap (goes_on (λ a. list_of (n - (i + 1)) item (before ++ a ∷ [])) bytes) e) ∙ left_here item bytes n start i before at lt l;
 }
 
-pub left_misses : {A : Type 0} {item : List A → Reader A} {bytes : List ℕ} {n start i : ℕ} {before : List A} {at : ℕ} (refused : SnapshotRefused) → i < n → Left item bytes n start i before at → Misses (item before bytes at) refused →
+pub left_misses : {A : Type 0} {item : List A → Reader A} {bytes : List ℕ} {n start i : ℕ} {before : List A} {at : ℕ}
+    (refused : SnapshotRefused) → i < n → Left item bytes n start i before at → Misses (item before bytes at) refused →
     Misses (list_of n item [] bytes start) refused
 left_misses {item = item} {bytes = bytes} {n = n} {start = start} {i = i} {before = before} {at = at} refused lt l m =
     subst (λ (t : Taken _). Misses t refused) (left_here item bytes n start i before at lt l)
     (misses_first (λ a. list_of (n - (i + 1)) item (before ++ a ∷ [])) bytes (item before bytes at) refused m)
 
-pub left_none : {A : Type 0} {item : List A → Reader A} {bytes : List ℕ} {n start i : ℕ} {before : List A} {at : ℕ} → n ≤ i → Left item bytes n start i before at → list_of n item [] bytes start ≡ Took before at
+pub left_none : {A : Type 0} {item : List A → Reader A} {bytes : List ℕ} {n start i : ℕ} {before : List A} {at : ℕ} → n ≤ i
+    → Left item bytes n start i before at → list_of n item [] bytes start ≡ Took before at
 left_none {item = item} {bytes = bytes} {n = n} {i = i} {before = before} {at = at} le l =
     let none : n - i ≡ 0 = omega (arith, le) in
     sym l.same ∙ ap (λ (k : ℕ). list_of k item before bytes at) none
 
 -- items that are put into an array
-pub left_set : {A : Type 0} {item : List A → Reader A} {bytes : List ℕ} {n start i : ℕ} (xs : List A) {at now : ℕ} {a : A} → i < n → i < length xs → Left item bytes n start i (take i xs) at → item (take i xs) bytes at ≡ Took a now →
+pub left_set : {A : Type 0} {item : List A → Reader A} {bytes : List ℕ} {n start i : ℕ} (xs : List A) {at now : ℕ} {a : A} → i < n
+    → i < length xs → Left item bytes n start i (take i xs) at → item (take i xs) bytes at ≡ Took a now →
     Left item bytes n start (i + 1) (take (i + 1) (set xs i a)) now
 left_set {item = item} {bytes = bytes} {n = n} {start = start} {i = i} xs {now = now} {a = a} lt long l e =
     subst (λ (ys : List _). Left item bytes n start (i + 1) ys now) (sym (take_more_set xs i a long)) (left_next lt l e)

@@ -22,7 +22,9 @@ module_made name heap_first heap_count first words kills dead blocks maps = reco
   map = maps;
 }
 
-pub module_took : (h : Head) (before : List StoredModule) (bytes : List ℕ) (at : ℕ) (size : ℕ) (a1 : ℕ) (name : List ℕ) (a2 : ℕ) (heap_first : ℕ) (a3 : ℕ) (heap_count : ℕ) (a4 : ℕ) (first : ℕ) (a5 : ℕ) (words : ℕ) (a6 : ℕ) (kills : Bool) (a7 : ℕ) (dead : Bool) (a8 : ℕ) (count : ℕ) (a9 : ℕ) (blocks : List Area) (a10 : ℕ) (runs : ℕ) (a11 : ℕ) (maps : List (Run Perm)) (a12 : ℕ) →
+pub module_took : (h : Head) (before : List StoredModule) (bytes : List ℕ) (at : ℕ) (size : ℕ) (a1 : ℕ) (name : List ℕ) (a2 : ℕ)
+    (heap_first : ℕ) (a3 : ℕ) (heap_count : ℕ) (a4 : ℕ) (first : ℕ) (a5 : ℕ) (words : ℕ) (a6 : ℕ) (kills : Bool) (a7 : ℕ) (dead : Bool)
+    (a8 : ℕ) (count : ℕ) (a9 : ℕ) (blocks : List Area) (a10 : ℕ) (runs : ℕ) (a11 : ℕ) (maps : List (Run Perm)) (a12 : ℕ) →
     between 1 32 bytes at ≡ Took size a1 →
     such (is_new_name before) (piece size) bytes a1 ≡ Took name a2 →
     number bytes a2 ≡ Took heap_first a3 →
@@ -37,5 +39,6 @@ pub module_took : (h : Head) (before : List StoredModule) (bytes : List ℕ) (at
     list_of runs (map_run_in h runs) [] bytes a11 ≡ Took maps a12 →
     module_in h before bytes at ≡ Took (module_made name heap_first heap_count first words kills dead blocks maps) a12
 unfolding module_in
-module_took h before bytes at size a1 name a2 heap_first a3 heap_count a4 first a5 words a6 kills a7 dead a8 count a9 blocks a10 runs a11 maps a12 e1 e2 e3 e4 e5 e6 e7 e8 e9 e10 e11 e12 =
+module_took h before bytes at size a1 name a2 heap_first a3 heap_count a4 first a5 words a6 kills a7 dead a8 count a9 blocks a10 runs a11
+    maps a12 e1 e2 e3 e4 e5 e6 e7 e8 e9 e10 e11 e12 =
     rw (e1, e2, e3, e4, e5, e6, e7, e8, e9, e10, e11, e12) refl

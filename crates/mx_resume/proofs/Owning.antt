@@ -1,5 +1,6 @@
 -- Owners that are given run by run.
-use Rattle.std.proofs.Common.{◌≡◌, ℕ, ◌+◌, ◌<◌, ◌≤◌, ⊎_elim, true, List, [], ◌∷◌, ◌++◌, length, replicate, Option, Some, None, refl, sym, ap, ◌∙◌, arith}
+use Rattle.std.proofs.Common.{◌≡◌, ℕ, ◌+◌, ◌<◌, ◌≤◌, ⊎_elim, true, List, [], ◌∷◌, ◌++◌, length, replicate, Option, Some, None, refl, sym}
+use Rattle.std.proofs.Common.{ap, ◌∙◌, arith}
 use Rattle.std.proofs.lemmas.Bool.{cases_lt}
 use Rattle.mx_words.specs.Newest.{Laid, laid, owners}
 use Rattle.mx_words.specs.Runs.{Run, most_owner_runs, owner_runs}
@@ -13,7 +14,8 @@ use Rattle.mx_snapshot.proofs.ValidRuns.{laid_runs-more, owners-few, owners-whol
 use Rattle.mx_resume.specs.declared.maps.Extent.{Extent}
 use Rattle.mx_resume.specs.Extents.{IsExtent, fills, last_value}
 use Rattle.mx_resume.proofs.Lists.{Left, left_all, left_next}
-use Rattle.mx_resume.proofs.Places.{count_more, fills_inside, fills_last, value_more, words_more}
+use Rattle.mx_resume.proofs.Places.{count_more, fills_inside, fills_last, value_more}
+use Rattle.mx_snapshot.proofs.CodecBounds.{run_words_more as words_more}
 
 -- so many runs are read, have so many words, and are given
 pub record IsGiven (h : Head) (bytes : List ℕ) (runs start read : ℕ) (last : Option ℕ) (words : ℕ) (os : List ℕ) (at : ℕ) : Type 0 where
@@ -25,7 +27,8 @@ pub record IsGiven (h : Head) (bytes : List ℕ) (runs start read : ℕ) (last :
   pub given : os ≡ owners (laid_runs 0 before) h.words
   pub left : Left (owner_run_in h runs) bytes runs start read before at
 
-pub given-none : (h : Head) (bytes : List ℕ) (runs start : ℕ) (os : List ℕ) → os ≡ replicate h.words 0 → IsGiven h bytes runs start 0 None 0 os start
+pub given-none : (h : Head) (bytes : List ℕ) (runs start : ℕ) (os : List ℕ) → os ≡ replicate h.words 0
+    → IsGiven h bytes runs start 0 None 0 os start
 given-none h bytes runs start os e = record {
   before = [];
   long = refl;
@@ -38,9 +41,11 @@ given-none h bytes runs start os e = record {
 
 -- a run laid over the words behind the runs before it
 laid-next : (words : ℕ) (before : List (Run ℕ)) (r : Run ℕ) →
-    laid (let e : Laid ℕ = record { first = run_words before; count = r.count; value = r.value } in e) (owners (laid_runs 0 before) words) ≡ owners (laid_runs 0 (before ++ r ∷ [])) words
+    laid (let e : Laid ℕ = record { first = run_words before; count = r.count; value = r.value } in e) (owners (laid_runs 0 before) words)
+    ≡ owners (laid_runs 0 (before ++ r ∷ [])) words
 laid-next words before r =
-    sym (owners-append (laid_runs 0 before) (let e : Laid ℕ = record { first = run_words before; count = r.count; value = r.value } in e) words)
+    sym (owners-append (laid_runs 0 before) (let e : Laid ℕ = record { first = run_words before; count = r.count; value = r.value } in e)
+    words)
     ∙ ap (λ (es : List (Laid ℕ)). owners es words) (again ∙ sym (laid_runs-more 0 before r))
   where
     zero_more : (n : ℕ) → n ≡ 0 + n
@@ -48,16 +53,22 @@ laid-next words before r =
 
     again : laid_runs 0 before ++ (let e : Laid ℕ = record { first = run_words before; count = r.count; value = r.value } in e) ∷ []
         ≡ laid_runs 0 before ++ (let e : Laid ℕ = record { first = 0 + run_words before; count = r.count; value = r.value } in e) ∷ []
-    again = ap (λ (n : ℕ). laid_runs 0 before ++ (let e : Laid ℕ = record { first = n; count = r.count; value = r.value } in e) ∷ []) (zero_more (run_words before))
+    again = ap (λ (n : ℕ). laid_runs 0 before ++ (let e : Laid ℕ = record { first = n; count = r.count; value = r.value } in e) ∷ [])
+        (zero_more (run_words before))
 
-pub extent-of : (h : Head) (bytes : List ℕ) (runs start read : ℕ) (last : Option ℕ) (words : ℕ) (os : List ℕ) (at : ℕ) (g : IsGiven h bytes runs start read last words os at) → IsExtent g.before (let e : Extent = record { runs = runs; read = read; words = words } in e)
+pub extent-of : (h : Head) (bytes : List ℕ) (runs start read : ℕ) (last : Option ℕ) (words : ℕ) (os : List ℕ) (at : ℕ)
+    (g : IsGiven h bytes runs start read last words os at) → IsExtent g.before (let e : Extent =
+    record { runs = runs; read = read; words = words } in e)
 extent-of h bytes runs start read last words os at g = record { read = g.long; words = g.filled }
 
-module _ (h : Head) (bytes : List ℕ) (runs start read : ℕ) (last : Option ℕ) (words : ℕ) (os : List ℕ) (at : ℕ) (g : IsGiven h bytes runs start read last words os at) (r : Run ℕ) (place : fills h.words runs read words r.count ≡ true) where
-  pub over : laid (let e : Laid ℕ = record { first = words; count = r.count; value = r.value } in e) os ≡ owners (laid_runs 0 (g.before ++ r ∷ [])) h.words
+module _ (h : Head) (bytes : List ℕ) (runs start read : ℕ) (last : Option ℕ) (words : ℕ) (os : List ℕ) (at : ℕ)
+    (g : IsGiven h bytes runs start read last words os at) (r : Run ℕ) (place : fills h.words runs read words r.count ≡ true) where
+  pub over : laid (let e : Laid ℕ = record { first = words; count = r.count; value = r.value } in e) os
+      ≡ owners (laid_runs 0 (g.before ++ r ∷ [])) h.words
   over =
       ap (λ (n : ℕ). laid (let e : Laid ℕ = record { first = n; count = r.count; value = r.value } in e) os) (sym g.filled)
-      ∙ ap (laid (let e : Laid ℕ = record { first = run_words g.before; count = r.count; value = r.value } in e)) g.given ∙ laid-next h.words g.before r
+      ∙ ap (laid (let e : Laid ℕ = record { first = run_words g.before; count = r.count; value = r.value } in e)) g.given
+      ∙ laid-next h.words g.before r
 
   pub run-inside : (0 < r.count) × (words + r.count ≤ h.words)
   run-inside = fills_inside h.words runs read words r.count place
@@ -68,7 +79,8 @@ module _ (h : Head) (bytes : List ℕ) (runs start read : ℕ) (last : Option �
       let long : length os ≡ h.words = ap length g.given ∙ length-owners (laid_runs 0 g.before) h.words in
       omega (arith, fits, long)
 
-  pub few-given : read < runs → runs ≤ most_owner_runs → owner_runs (laid (let e : Laid ℕ = record { first = words; count = r.count; value = r.value } in e) os) ≤ most_owner_runs
+  pub few-given : read < runs → runs ≤ most_owner_runs → owner_runs
+      (laid (let e : Laid ℕ = record { first = words; count = r.count; value = r.value } in e) os) ≤ most_owner_runs
   few-given lt few =
       let all = g.before ++ r ∷ [] in
       let same = ap owner_runs over in
@@ -78,14 +90,17 @@ module _ (h : Head) (bytes : List ℕ) (runs start read : ℕ) (last : Option �
       let fits = run-inside.1 in
       ⊎_elim
       (λ (more : read + 1 < runs). (let runs_few = owners-few all h.words (omega (arith, filled, fits)) in
-      let q : owner_runs (laid (let e : Laid ℕ = record { first = words; count = r.count; value = r.value } in e) os) ≤ most_owner_runs = omega (arith, same, runs_few, long, so_far, more, few) in q))
+      let q : owner_runs (laid (let e : Laid ℕ = record { first = words; count = r.count; value = r.value } in e) os) ≤ most_owner_runs =
+      omega (arith, same, runs_few, long, so_far, more, few) in q))
       (λ (no_more : runs ≤ read + 1). (let ends = fills_last h.words runs read words r.count (omega (arith, no_more, lt)) place in
       let runs_few = owners-whole all h.words (filled ∙ ends) in
-      let q : owner_runs (laid (let e : Laid ℕ = record { first = words; count = r.count; value = r.value } in e) os) ≤ most_owner_runs = omega (arith, same, runs_few, long, so_far, lt, few) in q))
+      let q : owner_runs (laid (let e : Laid ℕ = record { first = words; count = r.count; value = r.value } in e) os) ≤ most_owner_runs =
+      omega (arith, same, runs_few, long, so_far, lt, few) in q))
       (cases_lt (read + 1) runs)
 
   pub given-next : (now : ℕ) (os_now : List ℕ) → read < runs → owner_run_in h runs g.before bytes at ≡ Took r now
-      → os_now ≡ laid (let e : Laid ℕ = record { first = words; count = r.count; value = r.value } in e) os → IsGiven h bytes runs start (read + 1) (Some r.value) (words + r.count) os_now now
+      → os_now ≡ laid (let e : Laid ℕ = record { first = words; count = r.count; value = r.value } in e) os
+      → IsGiven h bytes runs start (read + 1) (Some r.value) (words + r.count) os_now now
   given-next now os_now lt e put = record {
     before = g.before ++ r ∷ [];
     long = count_more g.before r ∙ ap (λ (k : ℕ). k + 1) g.long;

@@ -1,13 +1,13 @@
 -- What is known of the next item of a list by those before it: runs, blocks, gates and names.
-use Rattle.std.proofs.Common.{◌≡◌, ℕ, ◌+◌, ◌<◌, ◌≤◌, ◌==◌, Bool, true, false, not, cond, ◌&&◌, ◌||◌, nat_lt, nat_le, List, [], ◌∷◌, ◌++◌, length, Option, Some, None, refl, ap, ◌∙◌, subst, arith, if◌then◌else◌, length-append, leb-true, ltb-true, eqb-true, zero-add}
+use Rattle.std.proofs.Common.{◌≡◌, ℕ, ◌+◌, ◌<◌, ◌≤◌, ◌==◌, Bool, true, false, not, cond, ◌&&◌, ◌||◌, nat_lt, nat_le, List, [], ◌∷◌, ◌++◌}
+use Rattle.std.proofs.Common.{length, Some, None, refl, ap, ◌∙◌, subst, arith, if◌then◌else◌, length-append, leb-true, ltb-true, eqb-true}
 use Rattle.std.specs.Prelude.{option_map, find}
 use Rattle.std.specs.Prelude.{map as list_map}
-use Rattle.std.specs.List.{last_or, list_any}
+use Rattle.std.specs.List.{list_any}
 use Rattle.std.specs.Option.{is_some, option_map_or}
 use Rattle.std.specs.Str.{bytes_eq}
 use Rattle.std.proofs.lemmas.Bool.{and_parts}
 use Rattle.std.proofs.lemmas.Bool.Decides.{nat_tests}
-use Rattle.std.proofs.lemmas.List.Sums.{sum_by-append}
 use Rattle.mx_words.specs.declared.perm.Perm.{Perm}
 use Rattle.mx_words.specs.declared.perm.Perm.TheVariants as P
 use Rattle.mx_words.specs.FirstFit.{Area}
@@ -15,20 +15,13 @@ use Rattle.mx_words.specs.Runs.{Run}
 use Rattle.mx_model.specs.declared.values.Gate.{Gate}
 use Rattle.mx_model.specs.Gates.{gate_target, has_gate, is_at, no_gate_fits, without_gate}
 use Rattle.mx_snapshot.specs.Resuming.{spans_in}
-use Rattle.mx_snapshot.specs.Rules.{behind, run_words}
+use Rattle.mx_snapshot.specs.Rules.{behind}
 use Rattle.mx_snapshot.specs.Stored.{StoredModule}
 use Rattle.mx_resume.specs.Extents.{fills, last_value}
-
--- the last item of a list with one more
-pub last_more : {A : Type 0} (o : Option A) (xs : List A) (x : A) → last_or o (xs ++ x ∷ []) ≡ Some x
-last_more o [] x = refl
-last_more o (y ∷ ys) x = last_more (Some y) ys x
+use Rattle.mx_snapshot.proofs.ValidLists.{last-push as last_more}
 
 pub value_more : {A : Type 0} (before : List (Run A)) (r : Run A) → last_value (before ++ r ∷ []) ≡ Some r.value
 value_more before r = ap (option_map (λ (x : Run _). x.value)) (last_more None before r)
-
-pub words_more : {A : Type 0} (before : List (Run A)) (r : Run A) → run_words (before ++ r ∷ []) ≡ run_words before + r.count
-words_more before r = sum_by-append (λ x. x.count) before (r ∷ []) ∙ ap (λ (k : ℕ). run_words before + k) (zero-add r.count)
 
 pub count_more : {A : Type 0} (xs : List A) (x : A) → length (xs ++ x ∷ []) ≡ length xs + 1
 count_more xs x = length-append xs (x ∷ [])
@@ -45,7 +38,8 @@ pub fills_last : (words runs read filled count : ℕ) → read + 1 ≡ runs → 
 fills_last words runs read filled count last e =
     let p = and_parts (nat_lt 0 count) _ e in
     let c : (read + 1 == runs) ≡ true = grind (arith, last) in
-    eqb-true (filled + count) words (subst (λ (b : Bool). (if b then filled + count == words else nat_le (filled + count) words) ≡ true) c p.1)
+    eqb-true (filled + count) words (subst (λ (b : Bool). (if b then filled + count == words else nat_le (filled + count) words) ≡ true) c
+    p.1)
 
 -- a run is at most one span
 pub spans_one : (first : ℕ) (r : Run Perm) → length (spans_in first (r ∷ [])) ≤ 1
@@ -61,7 +55,8 @@ pub behind_more : (heap : Area) (before : List Area) (b : Area) → behind heap 
 behind_more heap before b = ap (λ o. option_map_or (λ (x : Area). x.first + x.count) o heap.first) (last_more None before b)
 
 -- gates
-target_first : (g : Gate) (gs : List Gate) (domain word : ℕ) (b : Bool) → is_some (option_map (λ (x : Gate). x.target) (find (is_at domain word) gs)) ≡ has_gate gs domain word →
+target_first : (g : Gate) (gs : List Gate) (domain word : ℕ) (b : Bool)
+    → is_some (option_map (λ (x : Gate). x.target) (find (is_at domain word) gs)) ≡ has_gate gs domain word →
     is_some (option_map (λ (x : Gate). x.target) (cond b (Some g) (find (is_at domain word) gs))) ≡ (b || has_gate gs domain word)
 target_first g gs domain word true rest = refl
 target_first g gs domain word false rest = rest
@@ -70,7 +65,8 @@ pub target_there : (gates : List Gate) (domain word : ℕ) → is_some (gate_tar
 target_there [] domain word = refl
 target_there (g ∷ gs) domain word = target_first g gs domain word (is_at domain word g) (target_there gs domain word)
 
-kept_first : (g : Gate) (gs : List Gate) (domain word : ℕ) (b : Bool) → (has_gate gs domain word ≡ false → without_gate domain word gs ≡ gs) → (b || has_gate gs domain word) ≡ false →
+kept_first : (g : Gate) (gs : List Gate) (domain word : ℕ) (b : Bool) → (has_gate gs domain word ≡ false → without_gate domain word gs ≡ gs)
+    → (b || has_gate gs domain word) ≡ false →
     cond (not b) (g ∷ without_gate domain word gs) (without_gate domain word gs) ≡ g ∷ gs
 kept_first g gs domain word true rest f = cc
 kept_first g gs domain word false rest f = ap (λ (xs : List Gate). g ∷ xs) (rest f)
@@ -80,7 +76,9 @@ none_left_out domain word [] h = refl
 none_left_out domain word (g ∷ gs) h = kept_first g gs domain word (is_at domain word g) (none_left_out domain word gs) h
 
 -- names
-pub known_named : (before : List StoredModule) (name : List ℕ) → list_any (λ (n : List ℕ). bytes_eq n name) (list_map (λ (m : StoredModule). m.name) before) ≡ list_any (λ (m : StoredModule). bytes_eq m.name name) before
+pub known_named : (before : List StoredModule) (name : List ℕ)
+    → list_any (λ (n : List ℕ). bytes_eq n name) (list_map (λ (m : StoredModule). m.name) before)
+    ≡ list_any (λ (m : StoredModule). bytes_eq m.name name) before
 known_named [] name = refl
 known_named (m ∷ ms) name = ap (λ (b : Bool). bytes_eq m.name name || b) (known_named ms name)
 

@@ -1,5 +1,6 @@
 -- How far the runs of a list are read, and which numbers of the head are known.
-use Rattle.std.specs.Prelude.{◌≡◌, ℕ, ◌+◌, ◌-◌, ◌^◌, ◌≤◌, Bool, nat_le, nat_lt, ◌==◌, ◌&&◌, List, length, if◌then◌else◌, Option, None, option_map}
+use Rattle.std.specs.Prelude.{◌≡◌, ℕ, ◌+◌, ◌-◌, ◌^◌, ◌≤◌, Bool, nat_le, nat_lt, ◌==◌, ◌&&◌, List, length, if◌then◌else◌, Option, None}
+use Rattle.std.specs.Prelude.{option_map}
 use Rattle.std.specs.List.{last_or}
 use Rattle.mx_words.specs.Limits.{most_modules, most_harts}
 use Rattle.mx_words.specs.Ranges.{most_words}

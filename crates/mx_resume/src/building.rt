@@ -117,7 +117,8 @@ fn join_on<T: PermTables, const N: usize>(
     Supervisor::new(checker, ram, owners, gates, heaps)
 }
 
-/// The machine over a supervisor, with the harts, the stack areas, the dead domains and the turns that a snapshot gives.
+/// The machine over a supervisor, with the harts, the stack areas, the dead domains and the turns that a snapshot
+/// gives.
 fn go_on<T: PermTables, const N: usize>(
     parts: Supervisor<T, N>,
     states: &HartStates,

@@ -24,7 +24,7 @@ use mx_gates::Gates;
 use mx_memory::Ram;
 use mx_owners::Owners;
 use mx_snapshot::Kept;
-use mx_words::{Blob, MOST_GATES, MOST_OWNER_RUNS};
+use mx_words::{Blob, MOST_GATES, MOST_OWNER_RUNS, MOST_SNAPSHOT_BYTES};
 use std::alloc::Global;
 
 /// The greatest number of gates, as a field.
@@ -34,7 +34,7 @@ const MOST: u32 = MOST_GATES as u32;
 const OWNER_RUNS: u32 = MOST_OWNER_RUNS as u32;
 
 /// How many bytes a snapshot has at most that is read.
-const MOST_BYTES: usize = 1073741824;
+const MOST_BYTES: usize = MOST_SNAPSHOT_BYTES as usize;
 
 /// All that a snapshot stores.
 #[derive(Drop)]
@@ -176,9 +176,12 @@ fn resume(alloc: Global, fields: Fields) -> Result<Resumed, SnapshotRefused>
     Ok(Resumed { machine, plan })
 }
 
-/// The machine of a snapshot's bytes, and what is kept of its plan (docs/COMMANDS.md, "The snapshot"). It comes exactly where the bytes
-/// have none of the faults 1 to 5 and the maps that they store fit the limit that they store: the machine is then the state that is
-/// stored, with empty caches and no exit codes. A fault is the first one, with the place of its field, and faults come before tables;
+/// The machine of a snapshot's bytes, and what is kept of its plan (docs/COMMANDS.md, "The snapshot"). It comes exactly
+/// where the bytes
+/// have none of the faults 1 to 5 and the maps that they store fit the limit that they store: the machine is then the
+/// state that is
+/// stored, with empty caches and no exit codes. A fault is the first one, with the place of its field, and faults come
+/// before tables;
 /// only `NoMemory` has no cause in the bytes.
 pub fn read_snapshot(alloc: Global, bytes: &Blob) -> Result<Resumed, SnapshotRefused>
     ensures stored { IfOk result

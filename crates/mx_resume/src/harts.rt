@@ -53,7 +53,8 @@ fn has_bit(number: u32, i: u32) -> bool
     number / 2_u32.pow(i) % 2 == 1
 }
 
-/// Whether a call of a hart may have been heard by these harts: by others that there are, and by none where there is no call.
+/// Whether a call of a hart may have been heard by these harts: by others that there are, and by none where there is no
+/// call.
 fn is_heard(harts: u32, hart: u32, status: HartStatus, heard: u32) -> bool
     requires harts { harts ≤ most_harts }
     requires hart { hart < most_harts }

@@ -1,12 +1,13 @@
 //! The head of a snapshot.
-ghost use Rattle.std.specs.Prelude.{◌-◌, ◌^◌, ◌≡◌, ◌≤◌, ◌⊎◌, IfOk};
+ghost use Rattle.std.specs.Prelude.{◌-◌, ◌*◌, ◌^◌, ◌≡◌, ◌≤◌, ◌⊎◌, IfOk};
 ghost use Rattle.std.specs.Str.{bytes_eq};
 ghost use Rattle.mx_words.specs.Ranges.{most_words};
+ghost use Rattle.mx_words.specs.Limits.{is_buffer, least_ram_kib};
 ghost use Rattle.mx_manifest.specs.Forms.{is_within};
 ghost use Rattle.mx_manifest.specs.InRange.{IsBetween};
 ghost use Rattle.mx_snapshot.specs.Fields.{between, head_in, kind_by};
 ghost use Rattle.mx_snapshot.specs.Reader.{meant, number, number_of, piece, such, such_or};
-ghost use Rattle.mx_snapshot.specs.Rules.{is_buffer, is_ram};
+ghost use Rattle.mx_snapshot.specs.Rules.{is_ram};
 ghost use Rattle.mx_snapshot.specs.Spelling.{sign};
 ghost use Rattle.mx_resume.specs.Extents.{HasBounds};
 ghost use Rattle.mx_resume.specs.Parts.{head_seen};
@@ -15,7 +16,10 @@ ghost use Rattle.mx_resume.specs.Taking.{IsTaken};
 use crate::SnapshotRefused;
 use crate::reading::{between, fault, long_number, number, out_of_range, piece};
 use mx_table::MODULES;
-use mx_words::{Kind, MOST_HARTS, MOST_KEPT, MOST_WORDS, Need};
+use mx_words::{
+    Kind, LEAST_RAM_KIB, MOST_HARTS, MOST_KEPT, MOST_LEAF, MOST_QUANTUM, MOST_SPILL, MOST_UPPER,
+    MOST_WORDS, Need,
+};
 
 /// The first eight bytes of a snapshot: MXSN, and the version 1.
 const SIGN: [u8; 8] = [0x4D, 0x58, 0x53, 0x4E, 1, 0, 0, 0];
@@ -24,6 +28,9 @@ const SIGN: [u8; 8] = [0x4D, 0x58, 0x53, 0x4E, 1, 0, 0, 0];
 const HARTS: u32 = MOST_HARTS as u32;
 
 const KEPT: u32 = MOST_KEPT as u32;
+
+/// The fewest words of a RAM.
+const LEAST_WORDS: u32 = 256 * LEAST_RAM_KIB;
 
 /// The most turns after which a snapshot is read.
 const MOST_TURNS: u64 = (1 << 63) - 1;
@@ -62,12 +69,12 @@ fn sign<'a>(bytes: &'a [u8], at: &mut usize) -> Result<&'a [u8], SnapshotRefused
 }
 
 fn ram_words(bytes: &[u8], at: &mut usize) -> Result<u32, SnapshotRefused>
-    ensures range { IfOk result (λ n. IsBetween 16384 most_words n) }
+    ensures range { IfOk result (λ n. IsBetween (256 * least_ram_kib) most_words n) }
     ensures taken { IsTaken (λ n. n) (such is_ram number bytes.now at.old) at.new result }
 {
     let first = *at;
     let words = number(bytes, at)?;
-    if words < 16384 || MOST_WORDS < words || words % 1024 != 0 {
+    if words < LEAST_WORDS || MOST_WORDS < words || words % 1024 != 0 {
         return Err(out_of_range(first));
     }
     Ok(words)
@@ -116,11 +123,11 @@ pub(crate) fn read_head(bytes: &[u8], at: &mut usize) -> Result<Head, SnapshotRe
     sign(bytes, at)?;
     let words = ram_words(bytes, at)?;
     let kind = kind(bytes, at)?;
-    let upper = between(bytes, at, 0, 4096)?;
-    let leaf = between(bytes, at, 0, 262144)?;
-    let spill = between(bytes, at, 0, 1048576)?;
+    let upper = between(bytes, at, 0, MOST_UPPER)?;
+    let leaf = between(bytes, at, 0, MOST_LEAF)?;
+    let spill = between(bytes, at, 0, MOST_SPILL)?;
     let lookaside = lookaside(bytes, at)?;
-    let quantum = between(bytes, at, 1, 1000000)?;
+    let quantum = between(bytes, at, 1, MOST_QUANTUM)?;
     let modules = between(bytes, at, 1, MODULES)?;
     let harts = between(bytes, at, 1, HARTS)?;
     let turns = turns(bytes, at)?;

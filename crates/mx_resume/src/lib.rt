@@ -1,4 +1,5 @@
-//! Snapshots read: the machine of a snapshot's bytes and what is kept of its plan, or the place and number of the first fault.
+//! Snapshots read: the machine of a snapshot's bytes and what is kept of its plan, or the place and number of the first
+//! fault.
 #![tactic(auto)]
 
 mod areas;

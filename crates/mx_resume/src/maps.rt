@@ -1,5 +1,6 @@
 //! The runs of a module's map.
-ghost use Rattle.std.specs.Prelude.{◌≡◌, ℕ, ◌+◌, ◌<◌, ◌≤◌, ◌^◌, true, nat_lt, [], ◌∷◌, ◌++◌, length, List, None, IfOk, IfErr, OnOk};
+ghost use Rattle.std.specs.Prelude.{◌≡◌, ℕ, ◌+◌, ◌<◌, ◌≤◌, ◌^◌, true, nat_lt, [], ◌∷◌, ◌++◌, length, List, None, IfOk};
+ghost use Rattle.std.specs.Prelude.{IfErr, OnOk};
 ghost use Rattle.mx_words.specs.declared.perm.Perm.{Perm};
 ghost use Rattle.mx_words.specs.Ranges.{most_words};
 ghost use Rattle.mx_words.specs.Runs.{Run};
@@ -37,7 +38,8 @@ pub(crate) struct MapRun {
     pub perm: Perm,
 }
 
-/// Whether the next run of a list isn't empty, doesn't pass the end of a RAM of so many words, and ends there where it is the last.
+/// Whether the next run of a list isn't empty, doesn't pass the end of a RAM of so many words, and ends there where it
+/// is the last.
 pub(crate) fn has_place(words: u32, so_far: Extent, count: u32) -> bool
     requires read { so_far.read < so_far.runs }
     requires inside { so_far.words ≤ words }

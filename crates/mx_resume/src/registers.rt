@@ -34,7 +34,8 @@ pub(crate) fn pc(bytes: &[u8], at: &mut usize) -> Result<u32, SnapshotRefused>
     Ok(pc)
 }
 
-/// Whether a register of a hart may have a value: register 0 has 0, and register 17 of a hart that waits names an announced call.
+/// Whether a register of a hart may have a value: register 0 has 0, and register 17 of a hart that waits names an
+/// announced call.
 fn is_register(status: HartStatus, register: u32, value: u32) -> bool
     ensures { result ≡ is_register status register value }
 {

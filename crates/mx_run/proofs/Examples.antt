@@ -1,5 +1,6 @@
 -- Examples of the definitions that compute: words, and what is done next.
-use Rattle.std.proofs.Common.{◌≡◌, ℕ, Bool, List, [], ◌∷◌, ◌++◌, ◌&&◌, ◌||◌, not, map, get_or, bytes_eq, true, false, codes, Option, Some, None, is_some, refl}
+use Rattle.std.proofs.Common.{◌≡◌, ℕ, Bool, List, [], ◌∷◌, ◌++◌, ◌&&◌, ◌||◌, not, map, get_or, bytes_eq, true, false, codes, Option, Some}
+use Rattle.std.proofs.Common.{None, is_some, refl}
 use Rattle.mx_commands.specs.declared.status.FileRole.TheVariants.{Source, Snapshot as SnapshotRole}
 use Rattle.mx_commands.specs.declared.status.Status.TheVariants.{Usage, ShortFile, AsmFault, SnapshotFault}
 use Rattle.mx_run.specs.Words.{Go, Asm, Audit, Twin, Mill, debug_meaning, meaning, order_in}
@@ -21,8 +22,13 @@ use Rattle.mx_turns.specs.declared.task.Dump.TheVariants.{Ram, Snapshot}
 words_run : meaning (codes "run" ∷ codes "first.toml" ∷ codes "0010" ∷ []) ≡ Some (Go (plain_order way.Run (codes "first.toml") 10))
 words_run = refl
 
-words_options : meaning (codes "run" ∷ codes "first.toml" ∷ codes "7" ∷ codes "--counts" ∷ codes "--schedule" ∷ codes "s" ∷ codes "--dump" ∷ [])
-    ≡ Some (Go (record (plain_order way.Run (codes "first.toml") 7) { schedule = Some (codes "s"); shown = record nothing { dump = Some Ram; counts = true } }))
+words_options : meaning (codes "run" ∷ codes "first.toml" ∷ codes "7" ∷ codes "--counts" ∷ codes "--schedule" ∷ codes "s" ∷ codes "--dump"
+    ∷ [])
+    ≡ Some (Go (record (plain_order way.Run (codes "first.toml") 7) {
+      schedule = Some (codes "s");
+      shown =
+          record nothing { dump = Some Ram; counts = true };
+    }))
 words_options = refl
 
 words_no_name : meaning (codes "run" ∷ codes "first.toml" ∷ codes "7" ∷ codes "--schedule" ∷ []) ≡ None
@@ -35,7 +41,11 @@ words_option : meaning (codes "run" ∷ codes "-x" ∷ codes "1" ∷ []) ≡ Non
 words_option = refl
 
 words_trace : meaning (codes "trace" ∷ codes "first.toml" ∷ codes "7" ∷ codes "--from" ∷ codes "03" ∷ codes "--schedule" ∷ codes "s" ∷ [])
-    ≡ Some (Go (record (plain_order way.Trace (codes "first.toml") 7) { schedule = Some (codes "s"); shown = record nothing { from = Some 3 } }))
+    ≡ Some (Go (record (plain_order way.Trace (codes "first.toml") 7) {
+      schedule = Some (codes "s");
+      shown =
+          record nothing { from = Some 3 };
+    }))
 words_trace = refl
 
 words_from_no_number : meaning (codes "trace" ∷ codes "first.toml" ∷ codes "7" ∷ codes "--from" ∷ codes "x" ∷ []) ≡ None
@@ -45,20 +55,28 @@ words_effects : meaning (codes "trace" ∷ codes "first.toml" ∷ codes "7" ∷ 
     ≡ Some (Go (record (plain_order way.Trace (codes "first.toml") 7) { shown = record nothing { from = Some 3; effects = true } }))
 words_effects = refl
 
-words_tables : meaning (codes "run" ∷ codes "first.toml" ∷ codes "7" ∷ codes "--tables" ∷ []) ≡ Some (Go (record (plain_order way.Run (codes "first.toml") 7) { shown = record nothing { tables = true } }))
+words_tables : meaning (codes "run" ∷ codes "first.toml" ∷ codes "7" ∷ codes "--tables" ∷ [])
+    ≡ Some (Go (record (plain_order way.Run (codes "first.toml") 7) { shown = record nothing { tables = true } }))
 words_tables = refl
 
 words_asm : meaning (codes "asm" ∷ codes "a.s" ∷ []) ≡ Some (Asm (codes "a.s"))
 words_asm = refl
 
-words_save : meaning (codes "run" ∷ codes "first.toml" ∷ codes "7" ∷ codes "--save" ∷ []) ≡ Some (Go (record (plain_order way.Run (codes "first.toml") 7) { shown = record nothing { dump = Some Snapshot } }))
+words_save : meaning (codes "run" ∷ codes "first.toml" ∷ codes "7" ∷ codes "--save" ∷ [])
+    ≡ Some (Go (record (plain_order way.Run (codes "first.toml") 7) { shown = record nothing { dump = Some Snapshot } }))
 words_save = refl
 
-words_resume : meaning (codes "resume" ∷ codes "memory.bin" ∷ codes "09" ∷ codes "--save" ∷ codes "--tables" ∷ codes "--schedule" ∷ codes "s" ∷ [])
-    ≡ Some (Go (record (plain_order way.Resume (codes "memory.bin") 9) { schedule = Some (codes "s"); shown = record nothing { dump = Some Snapshot; tables = true } }))
+words_resume : meaning (codes "resume" ∷ codes "memory.bin" ∷ codes "09" ∷ codes "--save" ∷ codes "--tables" ∷ codes "--schedule"
+    ∷ codes "s" ∷ [])
+    ≡ Some (Go (record (plain_order way.Resume (codes "memory.bin") 9) {
+      schedule = Some (codes "s");
+      shown =
+          record nothing { dump = Some Snapshot; tables = true };
+    }))
 words_resume = refl
 
-words_resume_with_a_dump : meaning (codes "resume" ∷ codes "memory.bin" ∷ codes "9" ∷ codes "--dump" ∷ []) ≡ Some (Go (record (plain_order way.Resume (codes "memory.bin") 9) { shown = record nothing { dump = Some Ram } }))
+words_resume_with_a_dump : meaning (codes "resume" ∷ codes "memory.bin" ∷ codes "9" ∷ codes "--dump" ∷ [])
+    ≡ Some (Go (record (plain_order way.Resume (codes "memory.bin") 9) { shown = record nothing { dump = Some Ram } }))
 words_resume_with_a_dump = refl
 
 words_resume_without_steps : meaning (codes "resume" ∷ codes "memory.bin" ∷ codes "--save" ∷ []) ≡ None
@@ -113,10 +131,12 @@ who_has_which = refl
 
 -- options stand beside each other in either order, but for each beside itself, and `--dump` beside `--save`
 abbrev excludes : List ℕ → List ℕ → Bool
-excludes a b = bytes_eq a b || bytes_eq a (codes "--dump") && bytes_eq b (codes "--save") || bytes_eq a (codes "--save") && bytes_eq b (codes "--dump")
+excludes a b = bytes_eq a b || bytes_eq a (codes "--dump") && bytes_eq b (codes "--save") || bytes_eq a (codes "--save")
+    && bytes_eq b (codes "--dump")
 
 which_stand_together : map (λ asker. map (λ a. map (λ b. stands asker (a ++ b)) options) options) askers
-    ≡ map (λ asker. map (λ a. map (λ b. stands asker a && stands asker b && not (excludes (get_or a 0 []) (get_or b 0 []))) options) options) askers
+    ≡ map (λ asker. map (λ a. map (λ b. stands asker a && stands asker b && not (excludes (get_or a 0 []) (get_or b 0 []))) options)
+    options) askers
 which_stand_together = refl
 
 -- the debugger's words
@@ -154,17 +174,21 @@ next_large : next (Some (Asm (codes "a.s"))) (Large ∷ []) ≡ End (refusal (co
 next_large = refl
 
 -- a snapshot: its own file's faults, and then its bytes'
-next_large_snapshot : next (Some (Go (plain_order way.Resume (codes "memory.bin") 9))) (Large ∷ []) ≡ End (refusal (codes "memory.bin") (SnapshotFault 0 1))
+next_large_snapshot : next (Some (Go (plain_order way.Resume (codes "memory.bin") 9))) (Large ∷ [])
+    ≡ End (refusal (codes "memory.bin") (SnapshotFault 0 1))
 next_large_snapshot = refl
 
-next_short_snapshot : next (Some (Go (plain_order way.Resume (codes "memory.bin") 9))) (Short 10 4 ∷ []) ≡ End (refusal (codes "memory.bin") (ShortFile SnapshotRole 10 4))
+next_short_snapshot : next (Some (Go (plain_order way.Resume (codes "memory.bin") 9))) (Short 10 4 ∷ [])
+    ≡ End (refusal (codes "memory.bin") (ShortFile SnapshotRole 10 4))
 next_short_snapshot = refl
 
-next_cut_snapshot : next (Some (Go (plain_order way.Resume (codes "memory.bin") 9))) (Whole (0x4D ∷ 0x58 ∷ 0x53 ∷ 0x4E ∷ 1 ∷ 0 ∷ 0 ∷ 0 ∷ []) ∷ [])
+next_cut_snapshot : next (Some (Go (plain_order way.Resume (codes "memory.bin") 9)))
+    (Whole (0x4D ∷ 0x58 ∷ 0x53 ∷ 0x4E ∷ 1 ∷ 0 ∷ 0 ∷ 0 ∷ []) ∷ [])
     ≡ End (refusal (codes "memory.bin") (SnapshotFault 8 2))
 unfolding snapshot_of stored_in fields_in head_in number_at
 next_cut_snapshot = refl
 
-next_other_file : next (Some (Go (plain_order way.Resume (codes "memory.bin") 9))) (Whole (codes "version = 1") ∷ []) ≡ End (refusal (codes "memory.bin") (SnapshotFault 0 3))
+next_other_file : next (Some (Go (plain_order way.Resume (codes "memory.bin") 9))) (Whole (codes "version = 1") ∷ [])
+    ≡ End (refusal (codes "memory.bin") (SnapshotFault 0 3))
 unfolding snapshot_of stored_in fields_in head_in number_at
 next_other_file = refl

@@ -26,13 +26,15 @@ if_some None P each = tt
 if_some (Some a) P each = each a refl
 
 -- where the counts stay no sink failed
-no_fault : (texts : Texts) (b n : Sinks) (which : SinkFault) → Stays b.console.faults n.console.faults → Stays b.report.faults n.report.faults → Stays b.dump.faults n.dump.faults
+no_fault : (texts : Texts) (b n : Sinks) (which : SinkFault) → Stays b.console.faults n.console.faults
+    → Stays b.report.faults n.report.faults → Stays b.dump.faults n.dump.faults
     → IsSinkFault which texts b n → ⊥
 no_fault texts b n F.Console console report dump f = Stays-not-Rose b.console.faults n.console.faults console f.2.rose
 no_fault texts b n F.Report console report dump f = Stays-not-Rose b.report.faults n.report.faults report f.2.rose
 no_fault texts b n F.Dump console report dump f = Stays-not-Rose b.dump.faults n.dump.faults dump f.1.rose
 
-gives_from : (outcome : Outcome) (b n : Sinks) (result : Status) → ((which : SinkFault) → IsSinkFault which outcome.texts b n → ⊥) → EndsBy outcome b n result → Gives outcome b n result
+gives_from : (outcome : Outcome) (b n : Sinks) (result : Status) → ((which : SinkFault) → IsSinkFault which outcome.texts b n → ⊥)
+    → EndsBy outcome b n result → Gives outcome b n result
 gives_from outcome b n result none ends = elim ends [ inl h ↦ (h.0, h.1) | inr h ↦ absurd (none h.0 h.2) ]
 
 kept_nothing : (b n : Sinks) → WritesNothing b n → CountsKept b n
@@ -43,17 +45,20 @@ kept_nothing b n w =
       dump = ap (λ (s : SinkState). s.faults) w.dump;
     }
 
-module _ {S : Type 0} (state : S → StoreState) (gives : S → Answer → S → Type 0) (law : (s : S) (a : Answer) (t : S) → gives s a t → Tells (state s) a (state t))
+module _ {S : Type 0} (state : S → StoreState) (gives : S → Answer → S → Type 0) (law : (s : S) (a : Answer) (t : S) → gives s a t
+    → Tells (state s) a (state t))
     (s t : S) (asked : Option Request) (b n : Sinks) (result : Status) where
   pub answered_for : Reacts asked gives s t b n result → Answered asked gives s t b n result
   answered_for r = (r.0, r.1, elim r.2 [ inl h ↦ inl (h.0, h.1, h.2.how) | inr w ↦ inr w ])
 
   pub headline_for : Reacts asked gives s t b n result → Headline asked (state s) (state t) b n result
   headline_for r =
-      if_some (state s).told (λ files. CountsStay (state s) (state t) b n → result ≢ WantOfMemory → (outcome : Outcome) × IsOutcome asked files outcome × Gives outcome b n result)
+      if_some (state s).told (λ files. CountsStay (state s) (state t) b n → result ≢ WantOfMemory
+      → (outcome : Outcome) × IsOutcome asked files outcome × Gives outcome b n result)
       (λ files told stays enough.
       let said = talks_told state gives law s t r.0 r.1 in
-      let ok = all_succeeded (state s).faults (state t).faults (Stays-not-Rose (state s).faults (state t).faults stays.store) r.0 said.failed in
+      let ok = all_succeeded (state s).faults (state t).faults (Stays-not-Rose (state s).faults (state t).faults stays.store) r.0
+      said.failed in
       elim r.2 [
         | inl h ↦ (
           h.0,
@@ -73,7 +78,8 @@ module _ {S : Type 0} (state : S → StoreState) (gives : S → Answer → S →
       let ok = said.sure sure in
       elim r.2 [
         | inl h ↦
-            let same : h.0 ≡ outcome = one_outcome asked files h.0 outcome (h.1.0, leads_over h.1.0 (next asked) files r.0 h.0 ok.0 (said.told files told) h.1.1) is in
+            let same : h.0 ≡ outcome = one_outcome asked files h.0 outcome
+            (h.1.0, leads_over h.1.0 (next asked) files r.0 h.0 ok.0 (said.told files told) h.1.1) is in
             let ends = subst (λ (o : Outcome). Ends o b n result) same h.2 in
             let e = ends.sure room in
             (ok.1, e.2, inr (e.0, e.1))

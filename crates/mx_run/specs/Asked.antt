@@ -1,5 +1,5 @@
 -- What the code keeps of the words.
-use Rattle.std.specs.Prelude.{◌<◌, ◌^◌, ⊤, option_copied}
+use Rattle.std.specs.Prelude.{option_copied}
 use Rattle.mx_commands.specs.Asked.{order_of, pair_asked}
 use Rattle.mx_run.specs.Words.{Request, Go, Asm, Audit, Twin, Mill, Parsed, Stands, LacksSchedule, LacksFrom, Meaningless}
 use Rattle.mx_run.specs.declared.words.Asked.{Asked}
@@ -21,11 +21,3 @@ parsed_of (parse.Stands schedule o) = Stands (option_copied schedule) o
 parsed_of (parse.LacksSchedule o) = LacksSchedule o
 parsed_of (parse.LacksFrom schedule o) = LacksFrom (option_copied schedule) o
 parsed_of parse.Meaningless = Meaningless
-
--- the steps asked have at most ten digits
-abbrev pub HasFewSteps : Asked → Type 0
-HasFewSteps (asked.Go order) = order.steps < 10 ^ 10
-HasFewSteps (asked.Asm source) = ⊤
-HasFewSteps (asked.Audit name) = ⊤
-HasFewSteps (asked.Twin pair) = pair.steps < 10 ^ 10
-HasFewSteps (asked.Mill k) = ⊤

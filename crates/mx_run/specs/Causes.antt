@@ -16,7 +16,9 @@ use Rattle.mx_commands.specs.declared.side.Side.{Side}
 use Rattle.mx_commands.specs.declared.side.Side.TheVariants.{First, Second}
 use Rattle.mx_commands.specs.declared.status.FileRole.{FileRole}
 use Rattle.mx_commands.specs.declared.status.Status.{Status}
-use Rattle.mx_commands.specs.declared.status.Status.TheVariants.{Ran, Usage, Refused, TablesFull, StoreFault, ShortFile, NoFile, ConsoleFault, ReportFault, DumpFault, WantOfMemory, AsmFault, Unlike, NoDomain, SecondRefused, SecondTablesFull, SnapshotFault}
+use Rattle.mx_commands.specs.declared.status.Status.TheVariants.{Ran, Usage, Refused, TablesFull, StoreFault, ShortFile, NoFile}
+use Rattle.mx_commands.specs.declared.status.Status.TheVariants.{ConsoleFault, ReportFault, DumpFault, WantOfMemory, AsmFault, Unlike}
+use Rattle.mx_commands.specs.declared.status.Status.TheVariants.{NoDomain, SecondRefused, SecondTablesFull, SnapshotFault}
 use Rattle.mx_commands.specs.Order.{Order, Pair}
 use Rattle.mx_run.specs.Words.{Request, Go, Asm, Twin}
 use Rattle.mx_commands.specs.declared.order.Way.TheVariants.{Resume}

@@ -1,4 +1,5 @@
--- What `run` gives of a manifest that boots with each of its options, `--counts` and `--save` among them: for a reader of caches and snapshots.
+-- What `run` gives of a manifest that boots with each of its options, `--counts` and `--save` among them: for a reader of caches and
+-- snapshots.
 -- The rules: docs/PROMISES.md, "One clause for each command".
 use Rattle.std.specs.Prelude.{◌≡◌, ℕ, List, ◌∷◌, codes, Some}
 use Rattle.mx_io.specs.Store.{FileMap, StoreState}

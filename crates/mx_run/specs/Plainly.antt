@@ -2,6 +2,7 @@
 -- The rules: docs/PROMISES.md, "One clause for each command".
 use Rattle.std.specs.Prelude.{◌≡◌, ℕ, ◌-◌, ◌*◌, ◌≤◌, min, List, [], ◌∷◌, length, Option, Some, None, Ok}
 use Rattle.std.specs.FinMap.{get}
+use Rattle.mx_words.specs.Limits.{most_text_bytes, most_file_bytes}
 use Rattle.mx_io.specs.Store.{FileMap}
 use Rattle.mx_io.specs.Texts.{AppendsWhole}
 use Rattle.mx_model.specs.Run.{Schedule, ByQuantum, ByBytes}
@@ -13,7 +14,6 @@ use Rattle.mx_plan.specs.Manifest.{judged}
 use Rattle.mx_boot.specs.Boot.{boot_of}
 use Rattle.mx_boot.specs.Faults.{ram_words}
 use Rattle.mx_turns.specs.Ends.{Sinks}
-use Rattle.mx_commands.specs.Next.{text_limit, file_limit}
 
 -- each sink that tells holds what it held, followed by its text
 pub record HoldsTexts (shown told dumped : List ℕ) (before now : Sinks) : Type 0 where
@@ -29,7 +29,7 @@ pub record HasFile (files : FileMap) (most : ℕ) (name bytes : List ℕ) : Type
 -- the image of a module is its file, and empty for inline words
 abbrev pub IsImage : FileMap → Option (List ℕ) → List ℕ → Type 0
 IsImage files None image = image ≡ []
-IsImage files (Some name) image = HasFile files file_limit name image
+IsImage files (Some name) image = HasFile files most_file_bytes name image
 
 abbrev pub AreImages : FileMap → List ModulePlan → List (List ℕ) → Type 0
 AreImages files [] images = images ≡ []
@@ -54,7 +54,7 @@ AreInputs files left (m ∷ ms) inputs =
 -- the manifest of this name boots with its images and its inputs: its plan, and the state at boot
 pub record Boots (files : FileMap) (name : List ℕ) (plan : Said) (s : State) : Type 0 where
   pub bytes : List ℕ
-  pub file : HasFile files text_limit name bytes
+  pub file : HasFile files most_text_bytes name bytes
   pub good : judged bytes ≡ Ok plan
   pub images : List (List ℕ)
   pub taken : AreImages files plan.modules images
@@ -66,4 +66,4 @@ pub record Boots (files : FileMap) (name : List ℕ) (plan : Said) (s : State) :
 abbrev pub IsSchedule : FileMap → ℕ → Option (List ℕ) → Schedule → Type 0
 IsSchedule files quantum None schedule = schedule ≡ ByQuantum quantum
 IsSchedule files quantum (Some name) schedule =
-    (bytes : List ℕ) × HasFile files file_limit name bytes × (schedule ≡ ByBytes bytes)
+    (bytes : List ℕ) × HasFile files most_file_bytes name bytes × (schedule ≡ ByBytes bytes)

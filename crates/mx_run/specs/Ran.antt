@@ -1,6 +1,7 @@
 -- What the texts are where `run` ended with status 0: for a reader who asks for no cause of a refusal.
 -- The rules: docs/PROMISES.md, "One clause for each command".
 use Rattle.std.specs.Prelude.{◌≡◌, ℕ, ◌+◌, ◌*◌, List, Some}
+use Rattle.mx_words.specs.Limits.{most_text_bytes}
 use Rattle.mx_io.specs.Store.{FileMap, StoreState}
 use Rattle.toml.specs.Data.{Members, table}
 use Rattle.mx_model.specs.Run.{Schedule}
@@ -13,7 +14,6 @@ use Rattle.mx_uncached.specs.Forgetting.{plain}
 use Rattle.mx_uncached.specs.Turn.{plain_run}
 use Rattle.mx_commands.specs.declared.status.Status.{Status}
 use Rattle.mx_commands.specs.declared.status.Status.TheVariants.{Ran}
-use Rattle.mx_commands.specs.Next.{text_limit}
 use Rattle.mx_commands.specs.Order.{Order}
 use Rattle.mx_run.specs.Promise.{Smoothly}
 use Rattle.mx_run.specs.Plainly.{HasFile, AreImages, AreInputs, IsSchedule}
@@ -22,7 +22,7 @@ use Rattle.mx_run.specs.Runs.{AsksRun, HoldsRun}
 -- the files that a run read whole: its manifest, the images and the inputs of its modules, and its schedule
 pub record Reads (files : FileMap) (o : Order) : Type 0 where
   pub bytes : List ℕ
-  pub file : HasFile files text_limit o.file bytes
+  pub file : HasFile files most_text_bytes o.file bytes
   pub top : Members
   pub parsed : document bytes ≡ Some top
   pub images : List (List ℕ)

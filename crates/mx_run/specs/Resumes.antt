@@ -1,10 +1,10 @@
 -- What `resume` gives of a snapshot that is read: for a reader of `resume` alone. Its options are those of a run.
 -- The rules: docs/PROMISES.md, "One clause for each command".
 use Rattle.std.specs.Prelude.{◌≡◌, ℕ, List, ◌∷◌, codes, Some, Ok}
+use Rattle.mx_words.specs.Limits.{most_snapshot_bytes}
 use Rattle.mx_io.specs.Store.{FileMap, StoreState}
 use Rattle.mx_model.specs.Run.{Schedule}
 use Rattle.mx_model.specs.State.{State}
-use Rattle.mx_snapshot.specs.Fields.{most_bytes}
 use Rattle.mx_snapshot.specs.Kept.{KeptPlan}
 use Rattle.mx_snapshot.specs.Resumed.{plan_of, state_of}
 use Rattle.mx_snapshot.specs.Stored.{Stored}
@@ -22,7 +22,7 @@ use Rattle.mx_run.specs.Machines.{HoldsMachine}
 -- the snapshot of this name is read: what is kept of its plan, and its state
 pub record TakesUp (files : FileMap) (name : List ℕ) (kept : KeptPlan) (s : State) : Type 0 where
   pub bytes : List ℕ
-  pub file : HasFile files most_bytes name bytes
+  pub file : HasFile files most_snapshot_bytes name bytes
   pub stored : Stored
   pub good : snapshot_of bytes ≡ Ok stored
   pub plan : kept ≡ plan_of stored

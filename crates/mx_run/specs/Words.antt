@@ -1,9 +1,11 @@
 -- The meaning of the words of a command line (docs/COMMANDS.md, "The command line").
-use Rattle.std.specs.Prelude.{ℕ, Bool, true, false, ◌&&◌, nat_le, nat_lt, not, ◌==◌, if◌then◌else◌, List, [], ◌∷◌, length, codes, slice_index, fold, Option, Some, None, is_none, option_map, unwrap_or}
+use Rattle.std.specs.Prelude.{ℕ, Bool, true, false, ◌&&◌, nat_le, nat_lt, not, ◌==◌, if◌then◌else◌, List, [], ◌∷◌, length, codes}
+use Rattle.std.specs.Prelude.{slice_index, fold, Option, Some, None, is_none, option_map, unwrap_or}
 use Rattle.std.specs.Char.{is_ascii_digit}
 use Rattle.std.specs.List.{list_all}
 use Rattle.std.specs.Str.{bytes_eq}
 use Rattle.std.specs.Str.Parse.{digits_value}
+use Rattle.mx_words.specs.Limits.{most_name}
 use Rattle.mx_turns.specs.declared.task.Dump.TheVariants as D
 use Rattle.mx_commands.specs.declared.order.Shown.{Shown}
 use Rattle.mx_commands.specs.declared.order.Way.{Way}
@@ -21,7 +23,7 @@ pub data Request : Type 0 where
 
 -- a name has 1 to 255 bytes and doesn't begin with `-`
 abbrev pub is_name : List ℕ → Bool
-is_name word = nat_lt 0 (length word) && nat_le (length word) 255 && not (slice_index word 0 == 45)
+is_name word = nat_lt 0 (length word) && nat_le (length word) most_name && not (slice_index word 0 == 45)
 
 -- a number has 1 to 10 decimal digits; leading zeros are allowed
 abbrev pub is_number : List ℕ → Bool

@@ -1,7 +1,8 @@
 //! Laws of the definitions.
 
 ghost use Rattle.mx_run.specs.Leads.{AnswersDecide, FilesLead, FilesDecide};
-ghost use Rattle.mx_run.specs.Causes.{StatusesHaveCauses, CausesDecide, LargeSchedulesRefuse, StoreFaultsRise, NoneIsShort, NoFileIsAbsent, AbsentIsNoFile, SuccessKeeps};
+ghost use Rattle.mx_run.specs.Causes.{StatusesHaveCauses, CausesDecide, LargeSchedulesRefuse, StoreFaultsRise};
+ghost use Rattle.mx_run.specs.Causes.{NoneIsShort, NoFileIsAbsent, AbsentIsNoFile, SuccessKeeps};
 
 use mx_io::Store;
 
@@ -29,7 +30,8 @@ pub fn large_schedules_refuse()
 {}
 
 /// A law, over every store: what it gave leads to `StoreFault` only where its count rose. Where it tells its files, it
-/// never leads to `ShortFile`, and to `NoFile` just where a file is absent when it is reached, if no call failed there. Where
+/// never leads to `ShortFile`, and to `NoFile` just where a file is absent when it is reached, if no call failed there.
+/// Where
 /// every call succeeded its count stayed.
 pub fn stores_show_causes<S: Store>()
     ensures store_fault { StoreFaultsRise S.state S.gives }

@@ -6,7 +6,8 @@ ghost use Rattle.std.specs.Char.{is_ascii_digit};
 ghost use Rattle.std.specs.List.{list_all};
 ghost use Rattle.std.specs.Str.Parse.{digits_value};
 ghost use Rattle.mx_run.specs.Asked.{parsed_of};
-ghost use Rattle.mx_run.specs.Words.{Stands, counts, given_by, is_name, is_number, reports, rows, traces, where_may, with_word};
+ghost use Rattle.mx_run.specs.Words.{Stands, counts, given_by, is_name, is_number, reports, rows, traces, where_may};
+ghost use Rattle.mx_run.specs.Words.{with_word};
 
 use mx_commands::{Shown, Way};
 use mx_turns::Dump;

@@ -18,9 +18,12 @@ use std::io;
 use std::io::ErrorKind;
 use std::process::ExitCode;
 
-/// What `main` does: calls `mondrix` with the words after the program's name, the folder's files, standard output as the console,
-/// standard error as the report and the dump's file, and ends with the number of the status. Arguments that are not text ask
-/// for nothing that has a meaning. Where memory for the words is wanting the process ends with 10, and nothing is read or written.
+/// What `main` does: calls `mondrix` with the words after the program's name, the folder's files, standard output as
+/// the console,
+/// standard error as the report and the dump's file, and ends with the number of the status. Arguments that are not
+/// text ask
+/// for nothing that has a meaning. Where memory for the words is wanting the process ends with 10, and nothing is read
+/// or written.
 pub fn run_program<F: Folder, O: Stream, E: Stream, M: Maker>(
     alloc: Global,
     args: io::Result<Args>,

@@ -52,7 +52,8 @@ pub fn mondrix<S: Store, C: Sink, R: Sink, D: Sink>(
         (sinks (C.state console.old) (R.state report.old) (D.state dump.old))
         (sinks (C.state console.new) (R.state report.new) (D.state dump.new)) result }
 
-    // What `run` gives of a manifest that boots, without the counts and a snapshot: the texts of the plain machine's run.
+    // What `run` gives of a manifest that boots, without the counts and a snapshot: the texts of the plain machine's
+    // run.
     ensures run { RunsPlainly words.now (S.state store.old) (S.state store.new)
         (sinks (C.state console.old) (R.state report.old) (D.state dump.old))
         (sinks (C.state console.new) (R.state report.new) (D.state dump.new)) result }
@@ -142,7 +143,6 @@ fn go<S: Store, C: Sink, R: Sink, D: Sink>(
     report: &mut R,
     dump: &mut D,
 ) -> Status
-    requires { order.now.steps < 10 ^ 10 }
     ensures { Continues (next (Some (Go (order_of order.now)))) S.gives store.old store.new
         (sinks (C.state console.old) (R.state report.old) (D.state dump.old))
         (sinks (C.state console.new) (R.state report.new) (D.state dump.new)) result }

@@ -1,14 +1,17 @@
 //! The words of a command line and what they ask.
 
-ghost use Rattle.std.specs.Prelude.{◌≡◌, ◌^◌, ◌<◌, [], ◌∷◌, ◌++◌, map, fold, option_map, OnOk, OnErr, IfSome, string_bytes};
+ghost use Rattle.std.specs.Prelude.{◌≡◌, ◌^◌, ◌<◌, [], ◌∷◌, ◌++◌, map, fold, option_map, OnOk, OnErr, IfSome};
+ghost use Rattle.std.specs.Prelude.{string_bytes};
 ghost use Rattle.std.specs.Option.{option_copied};
 ghost use Rattle.mx_commands.specs.Asked.{order_of, pair_asked};
 ghost use Rattle.mx_commands.specs.Order.{nothing};
-ghost use Rattle.mx_run.specs.Asked.{request_of, parsed_of, HasFewSteps};
-ghost use Rattle.mx_run.specs.Words.{Stands, debug_meaning, go_request, meaning, mill_number, only_name, order_in, pair_of, with_word};
+ghost use Rattle.mx_run.specs.Asked.{request_of, parsed_of};
+ghost use Rattle.mx_run.specs.Words.{Stands, debug_meaning, go_request, meaning, mill_number, only_name, order_in};
+ghost use Rattle.mx_run.specs.Words.{pair_of, with_word};
 
 use crate::options::{Parse, is_name, is_number, number, with_word};
 use mx_commands::{Order, Pair, Shown, Way};
+use mx_turns::Steps;
 use mx_words::NoMemory;
 use std::alloc::Global;
 use std::marker::Model;
@@ -67,7 +70,6 @@ impl Words {
     /// What the words ask, or nothing exactly where they have no meaning. Takes no memory.
     pub fn asked(&self) -> Option<Asked<'_>>
         ensures meaning { option_map request_of result ≡ meaning self.now }
-        ensures steps { IfSome result HasFewSteps }
     {
         let (command, operands) = self.list.as_slice().split_first()?;
         match command.as_str() {
@@ -82,11 +84,11 @@ impl Words {
         }
     }
 
-    /// What the words ask of the debugger, or nothing exactly where they aren't `debug`, a manifest's name, a number of steps, and at
+    /// What the words ask of the debugger, or nothing exactly where they aren't `debug`, a manifest's name, a number of
+    /// steps, and at
     /// most a schedule. Takes no memory.
     pub fn asked_debug(&self) -> Option<Order<'_>>
         ensures meaning { option_map order_of result ≡ debug_meaning self.now }
-        ensures steps { IfSome result (λ order. order.steps < 10 ^ 10) }
     {
         let (command, operands) = self.list.as_slice().split_first()?;
         match command.as_str() {
@@ -110,7 +112,6 @@ fn only_name(operands: &[String]) -> Option<&str>
 // The two manifests, the domain and the steps that the operands are.
 fn pair_of(operands: &[String]) -> Option<Pair<'_>>
     ensures pair { option_map pair_asked result ≡ pair_of (map string_bytes operands.now) }
-    ensures steps { IfSome result (λ pair. pair.steps < 10 ^ 10) }
 {
     if operands.len() != 4 {
         return None;
@@ -124,7 +125,9 @@ fn pair_of(operands: &[String]) -> Option<Pair<'_>>
             first,
             second,
             domain: number(domain.as_bytes()),
-            steps: number(steps.as_bytes()),
+            steps: Steps {
+                count: number(steps.as_bytes()),
+            },
         })
     } else {
         None
@@ -149,7 +152,6 @@ fn mill_number(operands: &[String]) -> Option<u32>
 // The run of this way that the operands are.
 fn go_words(way: Way, operands: &[String]) -> Option<Asked<'_>>
     ensures meaning { option_map request_of result ≡ go_request way (map string_bytes operands.now) }
-    ensures steps { IfSome result HasFewSteps }
 {
     Some(Asked::Go(order_in(Some(way), operands)?))
 }
@@ -157,7 +159,6 @@ fn go_words(way: Way, operands: &[String]) -> Option<Asked<'_>>
 // The run that the operands are, with the asker's options: those of a way, or of the debugger with none.
 fn order_in(asker: Option<Way>, operands: &[String]) -> Option<Order<'_>>
     ensures order { option_map order_of result ≡ order_in asker (map string_bytes operands.now) }
-    ensures steps { IfSome result (λ order. order.steps < 10 ^ 10) }
 {
     if operands.len() < 2 {
         return None;
@@ -171,7 +172,9 @@ fn order_in(asker: Option<Way>, operands: &[String]) -> Option<Order<'_>>
         Parse::Stands(schedule, shown) => Some(Order {
             way: asker.unwrap_or(Way::Run),
             file,
-            steps: number(steps.as_bytes()),
+            steps: Steps {
+                count: number(steps.as_bytes()),
+            },
             schedule,
             shown,
         }),

@@ -8,7 +8,8 @@ use Rattle.mx_model.specs.declared.values.Frame.{Frame}
 use Rattle.mx_model.specs.Effect.{Effect, Goes, Faults, Loads, Stores, effect, holds, load_size, next, plus, reg, store_size, taken}
 use Rattle.mx_model.specs.Reads.{Reads}
 use Rattle.mx_model.specs.State.{Core, Hart, module_at}
-use Rattle.mx_model.specs.Turn.{Action, Traps, Returns, Runs, Decided, at_gate, by_effect, by_word, fetches, is_denied, returned_over, runs_at, runs_in}
+use Rattle.mx_model.specs.Turn.{Action, Traps, Returns, Runs, Decided, at_gate, by_effect, by_word, fetches, is_denied, returned_over}
+use Rattle.mx_model.specs.Turn.{runs_at, runs_in}
 use Rattle.mx_laws.proofs.TwinLaws.{action_in, pc_of}
 
 -- where an effect, or an action, leads to

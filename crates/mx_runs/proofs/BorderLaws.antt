@@ -1,5 +1,6 @@
 -- A running hart's border is told by its turn: the turn's sort by its action, and what it shows.
-use Rattle.std.proofs.Common.{◌≡◌, ◌↔◌, ⊎_elim, ◌⊎◌, ℕ, ◌<◌, Bool, ◌==◌, ◌||◌, nat_lt, List, [], ◌∷◌, ◌++◌, length, length-append, set, refl, sym, ◌∙◌, ap, subst, arith, if◌then◌else◌, Option, Some, None}
+use Rattle.std.proofs.Common.{◌≡◌, ◌↔◌, ⊎_elim, ◌⊎◌, ℕ, ◌<◌, Bool, ◌==◌, ◌||◌, nat_lt, List, [], ◌∷◌, ◌++◌, length, length-append, set}
+use Rattle.std.proofs.Common.{refl, sym, ◌∙◌, ap, subst, arith, if◌then◌else◌, Option, Some, None}
 use Rattle.std.specs.List.{last_or}
 use Rattle.std.proofs.lemmas.Bool.{ltb-false}
 use Rattle.std.proofs.lemmas.List.{get_or-set_same}
@@ -11,7 +12,8 @@ use Rattle.mx_model.specs.Effect.{reg}
 use Rattle.mx_model.specs.Gates.{below_top, top}
 use Rattle.mx_model.specs.Reads.{Reads}
 use Rattle.mx_model.specs.State.{Core, Hart, hart_at, module_at}
-use Rattle.mx_model.specs.Turn.{Action, Rests, Waits, Serves, Asks, Traps, Bounces, Crosses, Returns, Runs, Writes, Made, acted, call_of, runs_in}
+use Rattle.mx_model.specs.Turn.{Action, Rests, Waits, Serves, Asks, Traps, Bounces, Crosses, Returns, Runs, Writes, Made, acted, call_of}
+use Rattle.mx_model.specs.Turn.{runs_in}
 use Rattle.mx_model.proofs.KeepLaws.{keeps-hears}
 use Rattle.mx_model.proofs.TurnCases.{ready}
 use Rattle.mx_laws.specs.After.{core_after, domain_at, frames_at, kind_of}
@@ -19,11 +21,13 @@ use Rattle.mx_laws.specs.Twins.{IsRunning}
 use Rattle.mx_laws.proofs.FrameLaws.{top-split}
 use Rattle.mx_laws.proofs.TurnParts.{there}
 use Rattle.mx_laws.proofs.TwinLaws.{kind-asked}
-use Rattle.mx_runs.specs.Borders.{Crooked, Full, IsAtGate, IsCalling, IsGateCause, IsOfRow, NoFrame, Elsewhere, OverFrame, PassesGate, ReturnsTo, SentBack, pc_of}
+use Rattle.mx_runs.specs.Borders.{Crooked, Full, IsAtGate, IsCalling, IsGateCause, IsOfRow, NoFrame, Elsewhere, OverFrame, PassesGate}
+use Rattle.mx_runs.specs.Borders.{ReturnsTo, SentBack, pc_of}
 use Rattle.mx_runs.specs.Borders.{Crosses as Crossing}
 use Rattle.mx_runs.specs.Denials.{register_of}
 use Rattle.mx_runs.proofs.TrapLaws.{Does, does-action, traps-does}
-use Rattle.mx_runs.proofs.BorderMeets.{ByCrooked, ByDead, ByFull, ByNone, ByOther, GoesOn, Leaves, Meets, Over, Passes, Through, does-running, meets-in}
+use Rattle.mx_runs.proofs.BorderMeets.{ByCrooked, ByDead, ByFull, ByNone, ByOther, GoesOn, Leaves, Meets, Over, Passes, Through}
+use Rattle.mx_runs.proofs.BorderMeets.{does-running, meets-in}
 
 -- hart h after a turn that sets it
 set-after : (r : Reads) (c : Core) (h : ℕ) (a : Action) (d : Does r c h a) (y : Hart) → IsRunning c h →

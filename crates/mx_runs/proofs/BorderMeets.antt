@@ -1,5 +1,6 @@
 -- A running hart's border and the action of its turn, row by row.
-use Rattle.std.proofs.Common.{◌≡◌, ◌≢◌, ℕ, ◌-◌, ◌/◌, ◌%◌, ◌≤◌, Bool, true, false, not, ◌==◌, List, [], ◌∷◌, length, refl, sym, ◌∙◌, arith, eqb-true, if◌then◌else◌, Option, Some, None}
+use Rattle.std.proofs.Common.{◌≡◌, ◌≢◌, ℕ, ◌-◌, ◌/◌, ◌%◌, ◌≤◌, Bool, true, false, not, ◌==◌, List, [], ◌∷◌, length, refl, sym, ◌∙◌, arith}
+use Rattle.std.proofs.Common.{eqb-true, if◌then◌else◌, Option, Some, None}
 use Rattle.std.specs.List.{last_or}
 use Rattle.std.specs.Option.{option_map_or}
 use Rattle.std.proofs.lemmas.Bool.{eqb-false, leb-true}
@@ -7,12 +8,15 @@ use Rattle.mx_words.specs.declared.perm.Access.TheVariants as A
 use Rattle.mx_words.specs.Ranges.{ram_base}
 use Rattle.mx_isa.specs.declared.inst.Inst.{Inst}
 use Rattle.mx_model.specs.declared.values.Frame.{Frame}
-use Rattle.mx_model.specs.Agreement.{Border, Trap, AtGate, Back, Call, Nothing, border_in, border_of_effect, border_of_fetch, border_of_gate, border_of_word, target_at}
+use Rattle.mx_model.specs.Agreement.{Border, Trap, AtGate, Back, Call, Nothing, border_in, border_of_effect, border_of_fetch}
+use Rattle.mx_model.specs.Agreement.{border_of_gate, border_of_word, target_at}
 use Rattle.mx_model.specs.Effect.{Effect, Goes, Faults, Loads, Stores, Calls, Jumps, effect, next, reg, written}
 use Rattle.mx_model.specs.Gates.{most_frames, top}
 use Rattle.mx_model.specs.Reads.{Reads}
 use Rattle.mx_model.specs.State.{Core, Hart, hart_at, module_at}
-use Rattle.mx_model.specs.Turn.{Action, Asks, Traps, Bounces, Crosses, Returns, Runs, Writes, Decided, at_gate, at_return, by_effect, by_word, call_gate_at, call_of, fetches, is_denied, is_return_at, jump_action, returned_over, runs_at, runs_in}
+use Rattle.mx_model.specs.Turn.{Action, Asks, Traps, Bounces, Crosses, Returns, Runs, Writes, Decided, at_gate, at_return, by_effect}
+use Rattle.mx_model.specs.Turn.{by_word, call_gate_at, call_of, fetches, is_denied, is_return_at, jump_action, returned_over, runs_at}
+use Rattle.mx_model.specs.Turn.{runs_in}
 use Rattle.mx_model.proofs.GatesAt.{called_domain, call-gate-at, target_from}
 use Rattle.mx_model.proofs.TurnCases.{hart-hears, ready}
 use Rattle.mx_laws.specs.Twins.{IsRunning}

@@ -1,9 +1,12 @@
 -- Calls 2 and 13 answer -12 exactly where the access that they make is denied.
-use Rattle.std.proofs.Common.{◌≡◌, ◌↔◌, ℕ, zero, suc, ◌+◌, ◌-◌, ◌*◌, ◌/◌, ◌%◌, ◌<◌, ◌≤◌, ◌⊎◌, inl, inr, Bool, true, false, not, cond, ◌==◌, ◌&&◌, ◌||◌, nat_lt, List, [], ◌∷◌, length, refl, sym, ◌∙◌, ap, arith, eq-eqb, if◌then◌else◌, Option, Some, None, ⊎_elim}
+use Rattle.std.proofs.Common.{◌≡◌, ◌↔◌, ℕ, zero, suc, ◌+◌, ◌-◌, ◌*◌, ◌/◌, ◌%◌, ◌<◌, ◌≤◌, ◌⊎◌, inl, inr, Bool, true, false, not, cond, ◌==◌}
+use Rattle.std.proofs.Common.{◌&&◌, ◌||◌, nat_lt, List, [], ◌∷◌, length, refl, sym, ◌∙◌, ap, arith, eq-eqb, if◌then◌else◌, Option, Some}
+use Rattle.std.proofs.Common.{None, ⊎_elim}
 use Rattle.std.specs.Prelude.{slice_set}
 use Rattle.std.specs.List.{list_all, range_with_len}
 use Rattle.std.specs.Option.{option_map_or}
-use Rattle.std.proofs.lemmas.Bool.{and_cases, and_from, and_left, and_right, cases_lt, false_from_ne_true, le-leb, le-ltb, lt-ltb, not_from_true, or_from}
+use Rattle.std.proofs.lemmas.Bool.{and_cases, and_from, and_left, and_right, cases_lt, false_from_ne_true, le-leb, le-ltb, lt-ltb}
+use Rattle.std.proofs.lemmas.Bool.{not_from_true, or_from}
 use Rattle.std.proofs.lemmas.List.{get_or_past, get_or-set_same, get_or-set_other}
 use Rattle.mx_words.specs.declared.perm.Access.TheVariants as A
 use Rattle.mx_words.specs.Announced.{is_announced}
@@ -20,7 +23,8 @@ use Rattle.mx_model.specs.declared.values.Call.{Call}
 use Rattle.mx_model.specs.Checks.{arg, call_range, drops, is_halted, is_ready, looked_all}
 use Rattle.mx_model.specs.Effect.{effect, reg}
 use Rattle.mx_model.specs.Reads.{Reads, reads}
-use Rattle.mx_model.specs.Serve.{Served, answers, arg_word, bytes_at, code, exchange_from, judged, look_of, may_read, no_word, serve, serve_exchange, serve_write, served_by, service, write_looks, write_outside, write_words}
+use Rattle.mx_model.specs.Serve.{Served, answers, arg_word, bytes_at, code, exchange_from, judged, look_of, may_read, no_word, serve}
+use Rattle.mx_model.specs.Serve.{serve_exchange, serve_write, served_by, service, write_looks, write_outside, write_words}
 use Rattle.mx_model.specs.State.{Core, Hart, State, hart_at}
 use Rattle.mx_model.specs.Turn.{Asks, call_of, done, is_served_now}
 use Rattle.mx_model.proofs.KeepLaws.{keeps-hears, keeps-served_by}

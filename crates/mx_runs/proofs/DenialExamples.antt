@@ -18,7 +18,8 @@ use Rattle.mx_model.specs.State.{Running, State, no_module}
 use Rattle.mx_model.specs.Turn.{is_denied}
 use Rattle.mx_model.proofs.Boots.{regs_with}
 use Rattle.mx_model.proofs.Smalls.{grant, hart_of, small}
-use Rattle.mx_runs.specs.Denials.{Above, Below, ByNewest, Executes, Fetches, IsDenied, MakesCall, SomeDenied, Uncovered, answers_no_right, traps_with}
+use Rattle.mx_runs.specs.Denials.{Above, Below, ByNewest, Executes, Fetches, IsDenied, MakesCall, SomeDenied, Uncovered, answers_no_right}
+use Rattle.mx_runs.specs.Denials.{traps_with}
 use Rattle.mx_runs.proofs.CallDenials.{write-exactly}
 use Rattle.mx_runs.proofs.DenialLaws.{denied-test}
 use Rattle.mx_runs.proofs.TrapLaws.{fetch-exactly, load-exactly, store-exactly}

@@ -1,6 +1,8 @@
 -- The test of a turn is true exactly where an access is denied by the grants.
-use Rattle.std.proofs.Common.{◌≡◌, ◌↔◌, ℕ, ◌+◌, ◌-◌, ◌*◌, ◌<◌, ◌≤◌, ◌⊎◌, Bool, true, false, not, List, [], ◌∷◌, ◌++◌, fold, refl, sym, ◌∙◌, ap, arith, if◌then◌else◌}
-use Rattle.std.proofs.lemmas.Bool.{and_cases, and_from, and_parts, cases_lt, false_from_ne_true, leb-false, leb-true, le-leb, lt-ltb, ltb-false, ltb-true, not-true, not_from_false}
+use Rattle.std.proofs.Common.{◌≡◌, ◌↔◌, ℕ, ◌+◌, ◌-◌, ◌*◌, ◌<◌, ◌≤◌, ◌⊎◌, Bool, true, false, not, List, [], ◌∷◌, ◌++◌, fold, refl, sym, ◌∙◌}
+use Rattle.std.proofs.Common.{ap, arith, if◌then◌else◌}
+use Rattle.std.proofs.lemmas.Bool.{and_cases, and_from, and_parts, cases_lt, false_from_ne_true, leb-false, leb-true, le-leb, lt-ltb}
+use Rattle.std.proofs.lemmas.Bool.{ltb-false, ltb-true, not-true, not_from_false}
 use Rattle.mx_words.specs.declared.perm.Perm.{Perm}
 use Rattle.mx_words.specs.declared.perm.Perm.TheVariants as P
 use Rattle.mx_words.specs.declared.perm.Access.{Access}

@@ -1,5 +1,6 @@
 -- Runs keep the words that the domains of their turns may never write.
-use Rattle.std.proofs.Common.{◌≡◌, ℕ, zero, suc, ◌+◌, ◌-◌, ◌<◌, ◌≤◌, Bool, true, false, ◌==◌, nat_lt, List, [], ◌∷◌, length, get_or, refl, sym, ◌∙◌, ap, subst, arith, if◌then◌else◌, Option, Some, None, ⊎_elim}
+use Rattle.std.proofs.Common.{◌≡◌, ℕ, zero, suc, ◌+◌, ◌-◌, ◌<◌, ◌≤◌, Bool, true, false, ◌==◌, nat_lt, List, [], ◌∷◌, length, get_or, refl}
+use Rattle.std.proofs.Common.{sym, ◌∙◌, ap, subst, arith, if◌then◌else◌, Option, Some, None, ⊎_elim}
 use Rattle.std.proofs.Common.{map as list_map}
 use Rattle.std.specs.List.{AllByRecursion}
 use Rattle.std.proofs.lemmas.Bool.{eq-eqb, ltb-false, ltb-true}
@@ -25,10 +26,10 @@ use Rattle.mx_model.proofs.RunSteps.{run-going, run-stopped}
 use Rattle.mx_model.proofs.TurnLaws.{valid-turned}
 use Rattle.mx_laws.specs.After.{domain_at}
 use Rattle.mx_laws.specs.Foreign.{IsForeign, IsKept}
-use Rattle.mx_laws.proofs.ForeignLaws.{ram-halted}
+use Rattle.mx_laws.proofs.ForeignLaws.{kept-ram, ram-halted}
 use Rattle.mx_runs.specs.ForeignRuns.{AreAllForeign, HasLists, HasMaps, MakesTurn, MayNotWrite, NamesNobody, NeverWrites}
 use Rattle.mx_runs.proofs.RunMoments.{no-more, one-more}
-use Rattle.mx_runs.proofs.ForeignTurns.{IsGiven, kept-ram, turned-word}
+use Rattle.mx_runs.proofs.ForeignTurns.{IsGiven, turned-word}
 
 -- a word that is given may be written afterwards
 own-alone : (d : ℕ) → Some (if d == d then P.ReadWrite else P.None) ≡ Some P.ReadWrite

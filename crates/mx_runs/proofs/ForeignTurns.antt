@@ -1,5 +1,6 @@
 -- A turn keeps each word that its hart's domain may write neither before it nor after it.
-use Rattle.std.proofs.Common.{◌≡◌, ℕ, ◌+◌, ◌*◌, ◌<◌, ◌≤◌, ◌⊎◌, Bool, true, false, not, ◌==◌, ◌&&◌, nat_le, List, [], ◌∷◌, length, get_or, refl, sym, ◌∙◌, ap, subst, arith, Option, Some, None, unwrap_or, is_none, ⊎_elim, inl, inr}
+use Rattle.std.proofs.Common.{◌≡◌, ℕ, ◌+◌, ◌*◌, ◌<◌, ◌≤◌, ◌⊎◌, Bool, true, false, not, ◌==◌, ◌&&◌, nat_le, List, [], ◌∷◌, length, get_or}
+use Rattle.std.proofs.Common.{refl, sym, ◌∙◌, ap, subst, arith, Option, Some, None, unwrap_or, is_none, ⊎_elim, inl, inr}
 use Rattle.std.specs.List.{range_with_len}
 use Rattle.std.proofs.lemmas.Bool.{and_parts, leb-true, ltb-false, ltb-true}
 use Rattle.std.proofs.Math.ListN.{get_or-eq_default}
@@ -12,16 +13,18 @@ use Rattle.mx_model.specs.declared.values.Call.{Call}
 use Rattle.mx_model.specs.Checks.{arg}
 use Rattle.mx_model.specs.Gates.{top}
 use Rattle.mx_model.specs.Reads.{Reads, Change}
-use Rattle.mx_model.specs.Serve.{Alloc, Served, Service, alloc_change, alloc_from, alloc_place, allocated, change_of, ended, own_alone, serve, serve_alloc, served_by, service}
+use Rattle.mx_model.specs.Serve.{Alloc, Served, Service, alloc_change, alloc_from, alloc_place, allocated, change_of, ended, own_alone}
+use Rattle.mx_model.specs.Serve.{serve, serve_alloc, served_by, service}
 use Rattle.mx_model.specs.State.{Core, Hart, hart_at, module_at}
-use Rattle.mx_model.specs.Turn.{Action, Rests, Waits, Serves, Asks, Traps, Bounces, Crosses, Returns, Runs, Writes, acted, asked, call_of, done, is_served_now, killed, served, trapped, turned}
+use Rattle.mx_model.specs.Turn.{Action, Rests, Waits, Serves, Asks, Traps, Bounces, Crosses, Returns, Runs, Writes, acted, asked, call_of}
+use Rattle.mx_model.specs.Turn.{done, is_served_now, killed, served, trapped, turned}
 use Rattle.mx_model.specs.Valid.{IsModule, IsValid}
 use Rattle.mx_model.proofs.ListLaws.{found-passes, length-with_block}
 use Rattle.mx_model.proofs.TestLaws.{first-passes, found-some}
 use Rattle.mx_model.proofs.ValidParts.{home-at}
 use Rattle.mx_laws.specs.After.{domain_at}
 use Rattle.mx_laws.specs.Foreign.{AllButBlock, AllKept, ForeignAfter, IsForeign, IsKept, TakesBlock, heap_of}
-use Rattle.mx_laws.proofs.ForeignLaws.{cleared-beside, foreign-turned, ram-given_up, ram-killed, uncovered}
+use Rattle.mx_laws.proofs.ForeignLaws.{cleared-beside, foreign-turned, kept-ram, ram-given_up, ram-killed, uncovered}
 use Rattle.mx_laws.proofs.Lawful.{IsLawful, OwnCall, lawful-turn}
 use Rattle.mx_laws.proofs.TurnParts.{apart, by-action}
 
@@ -37,9 +40,6 @@ pub record IsGiven (c : Core) (d w : ℕ) (o : Option Change) : Type 0 where
 -- a word is kept, or given
 abbrev pub IsKeptOrGiven : Core → ℕ → ℕ → Core → Option Change → Type 0
 IsKeptOrGiven c d w e o = (IsKept c e w) ⊎ IsGiven c d w o
-
-pub kept-ram : (c e : Core) (w : ℕ) → e.ram ≡ c.ram → IsKept c e w
-kept-ram c e w n k l = ap (λ (xs : List ℕ). get_or xs (4 * w + k) 0) n
 
 moved : (c : Core) (d w : ℕ) (e f : Core) (o : Option Change) → f.ram ≡ e.ram → IsKeptOrGiven c d w e o →
     IsKeptOrGiven c d w f o

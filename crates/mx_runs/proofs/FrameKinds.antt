@@ -1,5 +1,6 @@
 -- What the kind of a turn tells of its hart's frames, in every state.
-use Rattle.std.proofs.Common.{◌≡◌, ◌≢◌, ◌⊎◌, inl, inr, ⊎_elim, ℕ, ◌-◌, ◌<◌, ◌≤◌, Bool, true, false, cond, List, [], ◌∷◌, ◌++◌, length, get_or, set, refl, sym, ◌∙◌, ap, subst, arith, length-append, Option, Some, None, unwrap_or}
+use Rattle.std.proofs.Common.{◌≡◌, ◌≢◌, ◌⊎◌, inl, inr, ⊎_elim, ℕ, ◌-◌, ◌<◌, ◌≤◌, Bool, true, false, cond, List, [], ◌∷◌, ◌++◌, length}
+use Rattle.std.proofs.Common.{get_or, set, refl, sym, ◌∙◌, ap, subst, arith, length-append, Option, Some, None, unwrap_or}
 use Rattle.std.specs.Prelude.{◌↔◌, slice_set}
 use Rattle.std.proofs.lemmas.List.{get_or-set_same, length-take}
 use Rattle.mx_words.specs.Hearing.{nobody}
@@ -12,7 +13,8 @@ use Rattle.mx_model.specs.Gates.{below_top, nearest}
 use Rattle.mx_model.specs.Reads.{Reads}
 use Rattle.mx_model.specs.Serve.{Served, serve}
 use Rattle.mx_model.specs.State.{Core, Halted, Hart, Running, Waiting, hart_at, no_hart}
-use Rattle.mx_model.specs.Turn.{Action, Asks, Bounces, Crosses, Made, Rests, Returns, Runs, Serves, Traps, Waits, Writes, acted, answered, asked, by_status, done, fault_answer, given_up, halted, is_served_now, stack_address, with_regs}
+use Rattle.mx_model.specs.Turn.{Action, Asks, Bounces, Crosses, Made, Rests, Returns, Runs, Serves, Traps, Waits, Writes, acted, answered}
+use Rattle.mx_model.specs.Turn.{asked, by_status, done, fault_answer, given_up, halted, is_served_now, stack_address, with_regs}
 use Rattle.mx_laws.specs.After.{core_after, frames_at, kind_of}
 use Rattle.mx_laws.specs.Crossing.{frame_of}
 use Rattle.mx_laws.proofs.FrameLaws.{going, harts-killed, harts-serve, over}

@@ -78,7 +78,8 @@ fetch-comes-first = (refl, refl)
 
 -- the newest grant that covers a word decides alone: an older one denies a write to word 41
 older-denies : (allows P.Read A.Write ≡ false)
-    × (is_denied (reads (standing 115 P.Read [] [] Running false)) (standing 115 P.Read [] [] Running false).core 1 0x800000A4 A.Write ≡ false)
+    × (is_denied (reads (standing 115 P.Read [] [] Running false)) (standing 115 P.Read [] [] Running false).core 1 0x800000A4 A.Write
+    ≡ false)
 older-denies = (refl, refl)
 
 -- of call 2: at most 4096 bytes, all in RAM; of call 13: a word, in RAM. Each is denied, and another test comes first
@@ -132,7 +133,8 @@ not-called : (kind (standing 0xFFF00513 P.ExecuteRead [] [] Running false) 0 ≡
 unfolding decoded effect holds imm_result reg_result loaded number_at put_at cleared_at imm_i imm_s imm_b imm_u imm_j extended
 not-called = (refl, refl)
 
-not-running : (kind (asking 1 (2 ^ 32 - 1) 0) 0 ≡ T.Called) × ((hart_at (turn (asking 1 (2 ^ 32 - 1) 0) 0).core 0).status ≡ Halted (Some (2 ^ 32 - 1)))
+not-running : (kind (asking 1 (2 ^ 32 - 1) 0) 0 ≡ T.Called) × ((hart_at (turn (asking 1 (2 ^ 32 - 1) 0) 0).core 0).status
+    ≡ Halted (Some (2 ^ 32 - 1)))
     × (ten_after (asking 1 (2 ^ 32 - 1) 0) ≡ code 1)
 unfolding decoded effect holds imm_result reg_result loaded number_at put_at cleared_at imm_i imm_s imm_b imm_u imm_j extended
 not-running = (refl, refl, refl)
@@ -156,7 +158,8 @@ idle turns harts =
 abbrev resting : Hart
 resting = hart 1 0x80000000 (regs_with []) [] Running
 
-other-turns : (hart_of (ByQuantum 1) (idle 0 (resting ∷ resting ∷ [])).core ≡ 0) × (hart_of (ByQuantum 1) (idle 1 (resting ∷ resting ∷ [])).core ≡ 1)
+other-turns : (hart_of (ByQuantum 1) (idle 0 (resting ∷ resting ∷ [])).core ≡ 0)
+    × (hart_of (ByQuantum 1) (idle 1 (resting ∷ resting ∷ [])).core ≡ 1)
 other-turns = (refl, refl)
 
 other-harts : (hart_of (ByQuantum 1) (idle 2 (resting ∷ resting ∷ [])).core ≡ 0)
@@ -173,7 +176,8 @@ crossed-apart : list_map (λ (p : Perm). border (reads (entering p)) (entering p
 unfolding decoded effect holds imm_result reg_result loaded number_at put_at cleared_at imm_i imm_s imm_b imm_u imm_j extended
 crossed-apart = refl
 
-rights-apart : list_map (λ (p : Perm). (reads (turn (entering p) 0)).perm (hart_at (turn (entering p) 0).core 0).domain 8) (P.Read ∷ P.None ∷ [])
+rights-apart : list_map (λ (p : Perm). (reads (turn (entering p) 0)).perm (hart_at (turn (entering p) 0).core 0).domain 8)
+    (P.Read ∷ P.None ∷ [])
     ≡ P.Read ∷ P.None ∷ []
 unfolding decoded effect holds imm_result reg_result loaded number_at put_at cleared_at imm_i imm_s imm_b imm_u imm_j extended
 rights-apart = refl
@@ -185,13 +189,15 @@ calling = boot (inline 0 P.ExecuteRead (0x800012B7 ∷ 0x000280E7 ∷ 0x00140413
     ∷ inline 1024 P.ExecuteRead (0x00700113 ∷ 0x00008067 ∷ []) ∷ [])
     (record { domain = 1; word = 1024; target = 2 } ∷ record { domain = 2; word = 1025; target = 2 } ∷ []) ((1, 0x80000000) ∷ [])
 
-after-the-end : list_map {B = ℕ × ℕ} (λ (n : ℕ). (depth (ByQuantum 1) calling 0 n, (hart_then (ByQuantum 1) calling 0 n).pc)) (2 ∷ 3 ∷ 5 ∷ 6 ∷ [])
+after-the-end : list_map {B = ℕ × ℕ} (λ (n : ℕ). (depth (ByQuantum 1) calling 0 n, (hart_then (ByQuantum 1) calling 0 n).pc))
+    (2 ∷ 3 ∷ 5 ∷ 6 ∷ [])
     ≡ (0, 0x80001000) ∷ (1, 0x80001000) ∷ (0, 0x80000008) ∷ (0, 0x8000000C) ∷ []
 unfolding decoded effect holds imm_result reg_result loaded number_at put_at cleared_at imm_i imm_s imm_b imm_u imm_j extended
 after-the-end = refl
 
 -- and the state is valid: mx_laws has a state in which the top frame holds fourteen registers, and gives back no fifteenth
-fifteenth-stays : list_map {B = ℕ × ℕ} (λ (n : ℕ). (depth (ByQuantum 1) short 0 n, reg (hart_then (ByQuantum 1) short 0 n).regs 27)) (0 ∷ 1 ∷ []) ≡ (1, 7) ∷ (0, 7) ∷ []
+fifteenth-stays : list_map {B = ℕ × ℕ} (λ (n : ℕ). (depth (ByQuantum 1) short 0 n, reg (hart_then (ByQuantum 1) short 0 n).regs 27))
+    (0 ∷ 1 ∷ []) ≡ (1, 7) ∷ (0, 7) ∷ []
 unfolding decoded effect holds imm_result reg_result loaded number_at put_at cleared_at imm_i imm_s imm_b imm_u imm_j extended
 fifteenth-stays = refl
 

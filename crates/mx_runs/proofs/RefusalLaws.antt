@@ -1,5 +1,6 @@
 -- A call is refused by the first of its tests that fails, and only then does it answer a code.
-use Rattle.std.proofs.Common.{◌≡◌, ℕ, ◌+◌, ◌*◌, ◌<◌, ◌≤◌, Bool, true, false, not, cond, nat_lt, nat_le, ◌==◌, ◌&&◌, List, [], ◌∷◌, length, refl, sym, ap, subst, set-set, arith, if◌then◌else◌, Option, Some, None, unwrap_or, is_none}
+use Rattle.std.proofs.Common.{◌≡◌, ℕ, ◌+◌, ◌*◌, ◌<◌, ◌≤◌, Bool, true, false, not, cond, nat_lt, nat_le, ◌==◌, ◌&&◌, List, [], ◌∷◌, length}
+use Rattle.std.proofs.Common.{refl, sym, ap, subst, set-set, arith, if◌then◌else◌, Option, Some, None, unwrap_or, is_none}
 use Rattle.std.specs.List.{AllByRecursion, list_all, range_with_len}
 use Rattle.std.proofs.lemmas.Bool.{and_parts, leb-true, ltb-false}
 use Rattle.std.proofs.lemmas.List.{set-get_or}
@@ -13,7 +14,10 @@ use Rattle.mx_words.specs.Rights.{allows, number}
 use Rattle.mx_model.specs.declared.values.Call.{Call}
 use Rattle.mx_model.specs.Checks.{Look, arg, call_range, drops, looked, looked_all}
 use Rattle.mx_model.specs.Reads.{Reads}
-use Rattle.mx_model.specs.Serve.{Served, Service, Exit, Write, Grant, RevokeAll, Transfer, Alloc, Free, AddGate, RemoveGate, AddReturnGate, Query, Self, Exchange, Unknown, alloc_change, alloc_from, alloc_place, answers, arg_word, code, ended, exchange_from, judged, may_read, serve, serve_alloc, served_by, service, write_from, write_words, write_outside, no_word}
+use Rattle.mx_model.specs.Serve.{Served, Service, Exit, Write, Grant, RevokeAll, Transfer, Alloc, Free, AddGate, RemoveGate, AddReturnGate}
+use Rattle.mx_model.specs.Serve.{Query, Self, Exchange, Unknown, alloc_change, alloc_from, alloc_place, answers, arg_word, code, ended}
+use Rattle.mx_model.specs.Serve.{exchange_from, judged, may_read, serve, serve_alloc, served_by, service, write_from, write_words}
+use Rattle.mx_model.specs.Serve.{write_outside, no_word}
 use Rattle.mx_model.specs.State.{Core, cache_at, module_at, with_cache}
 use Rattle.mx_model.specs.Valid.{IsCall, IsValid}
 use Rattle.mx_model.proofs.ListLaws.{found-passes}

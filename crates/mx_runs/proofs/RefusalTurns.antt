@@ -1,5 +1,6 @@
 -- The turn of a refused call: where a hart runs on with a code in x10, and what that turn leaves.
-use Rattle.std.proofs.Common.{◌≡◌, ◌∙◌, ◌⊎◌, ◌↔◌, ℕ, ◌+◌, ◌<◌, Bool, true, false, [], length, set, refl, sym, ap, subst, set-set, arith, if◌then◌else◌, Option, Some, None, ⊎_elim}
+use Rattle.std.proofs.Common.{◌≡◌, ◌∙◌, ◌⊎◌, ◌↔◌, ℕ, ◌+◌, ◌<◌, Bool, true, false, [], length, set, refl, sym, ap, subst, set-set, arith}
+use Rattle.std.proofs.Common.{if◌then◌else◌, Option, Some, None, ⊎_elim}
 use Rattle.std.proofs.lemmas.Bool.{ltb-true, ltb-false}
 use Rattle.std.proofs.lemmas.List.{get_or-set_same, get_or-set_other}
 use Rattle.std.proofs.Math.ListN.{get_or-eq_default}
@@ -13,7 +14,8 @@ use Rattle.mx_model.specs.Effect.{next, reg}
 use Rattle.mx_model.specs.Reads.{Reads}
 use Rattle.mx_model.specs.Serve.{Served, Service, code, serve, service}
 use Rattle.mx_model.specs.State.{Core, Hart, Running, Halted, hart_at, with_cache}
-use Rattle.mx_model.specs.Turn.{Action, Rests, Waits, Serves, Asks, Traps, Bounces, Crosses, Returns, Runs, Writes, Made, acted, answered, asked, call_of, counted, decide, done, enacted, is_served_now, served, with_regs}
+use Rattle.mx_model.specs.Turn.{Action, Rests, Waits, Serves, Asks, Traps, Bounces, Crosses, Returns, Runs, Writes, Made, acted, answered}
+use Rattle.mx_model.specs.Turn.{asked, call_of, counted, decide, done, enacted, is_served_now, served, with_regs}
 use Rattle.mx_model.specs.Valid.{IsCall, IsHart, IsValid}
 use Rattle.mx_model.proofs.DecideLaws.{IsAction, action-decide, call-of}
 use Rattle.mx_model.proofs.KeepLaws.{keeps-serve}

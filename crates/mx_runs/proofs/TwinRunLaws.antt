@@ -1,42 +1,37 @@
 -- Twin runs: as long as the turns are of harts of a set that meet no border, two runs share what these harts see.
-use Rattle.std.proofs.Common.{◌≡◌, ℕ, zero, suc, ◌+◌, ◌%◌, ◌≤◌, Bool, true, false, ◌==◌, ◌||◌, List, [], ◌∷◌, ◌++◌, length, get_or, refl, sym, ◌∙◌, ap, subst, arith, eqb-true}
+use Rattle.std.proofs.Common.{◌≡◌, ℕ, zero, suc, ◌+◌, ◌%◌, ◌≤◌, Bool, true, false, ◌==◌, ◌||◌, List, [], ◌∷◌, ◌++◌, length, refl}
+use Rattle.std.proofs.Common.{sym, ◌∙◌, ap, subst, arith, eqb-true}
 use Rattle.std.specs.Prelude.{fold}
-use Rattle.std.specs.List.{AllByRecursion, list_all}
-use Rattle.std.proofs.lemmas.Bool.{and_parts, eqb-false}
+use Rattle.std.specs.List.{AllByRecursion}
+use Rattle.std.proofs.lemmas.Bool.{eqb-false}
 use Rattle.std.proofs.lemmas.List.{length-append}
 use Rattle.std.proofs.lemmas.List.Sums.{fold-append}
 use Rattle.mx_model.specs.Agreement.{standing}
 use Rattle.mx_model.specs.Checks.{is_halted}
 use Rattle.mx_model.specs.Reads.{reads}
 use Rattle.mx_model.specs.Run.{Schedule, all_halted, hart_of, is_over, is_stopped, run, turn}
-use Rattle.mx_model.specs.State.{Core, Hart, Status, Running, State, hart_at, no_hart}
+use Rattle.mx_model.specs.State.{Core, Hart, Status, Running, State, hart_at}
 use Rattle.mx_model.proofs.KeepLaws.{keeps-turned, size-turned}
 use Rattle.mx_model.proofs.ListLaws.{all-append, length-put_at}
 use Rattle.mx_laws.specs.Twins.{AreTwins, IsRunning, MakeOneStore, Store, free_twins, stored}
 use Rattle.mx_laws.proofs.AfterLaws.{agree-after}
+use Rattle.mx_laws.proofs.QuietLaws.{halted-each}
 use Rattle.mx_laws.proofs.TwinLaws.{IsLeftFree, action_in, border-twins, left-twin, store-twins}
 use Rattle.mx_runs.specs.TwinRuns.{AreFreeTurns, AreTwinStates, GoAlike, IsFreeTurn}
 use Rattle.mx_runs.proofs.AlignedTurns.{straight-action}
 use Rattle.mx_runs.proofs.RunMoments.{one-more}
 
 -- both schedules name the same hart, and go on
-same-hart : (schedule : Schedule) (c e : Core) → c.turns ≡ e.turns → length c.harts ≡ length e.harts →
+pub same-hart : (schedule : Schedule) (c e : Core) → c.turns ≡ e.turns → length c.harts ≡ length e.harts →
     hart_of schedule c ≡ hart_of schedule e
 same-hart x c e p q = grind arith
-
-halted-all : (harts : List Hart) (h : ℕ) → list_all (λ (hart : Hart). is_halted hart.status) harts ≡ true →
-    is_halted (get_or harts h no_hart).status ≡ true
-halted-all [] h e = refl
-halted-all (x ∷ xs) zero e = (and_parts (is_halted x.status) (list_all (λ (hart : Hart). is_halted hart.status) xs) e).0
-halted-all (x ∷ xs) (suc h) e =
-    halted-all xs h (and_parts (is_halted x.status) (list_all (λ (hart : Hart). is_halted hart.status) xs) e).1
 
 goes-on : (schedule : Schedule) (s : State) (h : ℕ) → is_over schedule s.core.turns ≡ false → IsRunning s.core h →
     is_stopped schedule s ≡ false
 goes-on schedule s h e p =
     elim (all_halted s.core) as (λ b. all_halted s.core ≡ b → b || is_over schedule s.core.turns ≡ false) [
       | true ↦ λ t.
-          let k : true ≡ false = sym (halted-all s.core.harts h t) ∙ ap (λ (x : Status). is_halted x) p in
+          let k : true ≡ false = sym (halted-each s.core.harts h t) ∙ ap (λ (x : Status). is_halted x) p in
           absurd (cc)
       | false ↦ λ t. e
     ] refl
@@ -72,7 +67,14 @@ module _ (set : ℕ →
       record {
         words = size-turned (reads u) u.core h ∙ t.words ∙ sym (size-turned (reads v) v.core h);
         bytes =
-            cc (one-store.first, length-put_at store.size u.core.ram store.place store.value, t.bytes, length-put_at store.size v.core.ram store.place store.value, one-store.second);
+            cc (
+              one-store.first,
+              length-put_at store.size u.core.ram store.place store.value,
+              t.bytes,
+              length-put_at store.size v.core.ram
+                  store.place store.value,
+              one-store.second,
+            );
         harts = k.harts ∙ t.harts ∙ sym l.harts;
         turns = k.turns ∙ ap (λ (n : ℕ). n + 1) t.turns ∙ sym l.turns;
         aligned = λ g j. aligned-after g j (g == h) refl;

@@ -3,7 +3,7 @@ ghost use Rattle.std.specs.Prelude.{◌≡◌, ◌↔◌, ℕ, ◌%◌, ◌≤�
 ghost use Rattle.mx_words.specs.declared.perm.Access.{Access};
 ghost use Rattle.mx_words.specs.declared.perm.Access.TheVariants as A;
 ghost use Rattle.mx_words.specs.Calls.{write_call, exchange_call};
-ghost use Rattle.mx_words.specs.Limits.{most_bytes};
+ghost use Rattle.mx_words.specs.Limits.{most_written};
 ghost use Rattle.mx_isa.specs.declared.inst.Inst.TheVariants.{Load, Store};
 ghost use Rattle.mx_isa.specs.declared.inst.LoadWidth.{LoadWidth};
 ghost use Rattle.mx_isa.specs.declared.inst.StoreWidth.{StoreWidth};
@@ -12,7 +12,8 @@ ghost use Rattle.mx_model.specs.Reads.{reads};
 ghost use Rattle.mx_model.specs.State.{State, hart_at};
 ghost use Rattle.mx_model.specs.Turn.{is_denied};
 ghost use Rattle.mx_laws.specs.After.{domain_at};
-ghost use Rattle.mx_runs.specs.Denials.{MakesCall, Executes, FaultsExactly, Fetches, InRam, IsDenied, SomeDenied, address_by, answers_no_right, register_of, traps_with};
+ghost use Rattle.mx_runs.specs.Denials.{MakesCall, Executes, FaultsExactly, Fetches, InRam, IsDenied, SomeDenied};
+ghost use Rattle.mx_runs.specs.Denials.{address_by, answers_no_right, register_of, traps_with};
 
 /// Denied exactly. The test of a turn is true exactly where an access is denied: outside RAM, or where no grant of the
 /// domain covers the word, or where the newest that does doesn't allow it. A hart that runs in a live domain at no call
@@ -32,7 +33,7 @@ pub fn denied_exactly()
         Executes s h (Store width base from offset) →
         FaultsExactly s h (address_by s h base offset) (store_size width) A.Write 7 6 }
     ensures write { (s : State) (h : ℕ) → MakesCall s h write_call →
-        register_of s.core h 11 ≤ most_bytes →
+        register_of s.core h 11 ≤ most_written →
         InRam s (register_of s.core h 10) (register_of s.core h 11) → answers_no_right s h
         ↔ SomeDenied s (domain_at s.core h) (register_of s.core h 10) (register_of s.core h 11)
         A.Read }

@@ -5,7 +5,8 @@ ghost use Rattle.mx_model.specs.Run.{Schedule, flat_turn, run, turn};
 ghost use Rattle.mx_model.specs.State.{State, Flat};
 ghost use Rattle.mx_laws.specs.After.{domain_at};
 ghost use Rattle.mx_laws.specs.Foreign.{IsForeign, IsKept};
-ghost use Rattle.mx_runs.specs.ForeignRuns.{AreAllForeign, HasLists, HasMaps, MakesTurn, MayNotWrite, NamesNobody, NeverWrites};
+ghost use Rattle.mx_runs.specs.ForeignRuns.{AreAllForeign, HasLists, HasMaps, MakesTurn, MayNotWrite, NamesNobody};
+ghost use Rattle.mx_runs.specs.ForeignRuns.{NeverWrites};
 
 /// Foreign words stay. From a valid state with one list of grants for each module, or one whole map: a word that the
 /// domain of a hart may write neither before the hart's turn nor after it keeps its four bytes in that turn; the

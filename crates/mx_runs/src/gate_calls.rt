@@ -8,8 +8,10 @@ ghost use Rattle.mx_model.specs.Valid.{IsValid};
 ghost use Rattle.mx_laws.specs.After.{core_after, kind_of};
 ghost use Rattle.mx_runs.specs.GateCalls.{Crosses, GivesBack, IsGateCall, Leaves, depth, depth_of};
 
-/// Gate calls return. In every run from a valid state a call ends where it began, whatever is nested in it and whatever other harts do:
-/// the hart has the frames, the domain and the fifteen registers of the moment before its crossing, and its pc is x1 of then. It ends
+/// Gate calls return. In every run from a valid state a call ends where it began, whatever is nested in it and whatever
+/// other harts do:
+/// the hart has the frames, the domain and the fifteen registers of the moment before its crossing, and its pc is x1 of
+/// then. It ends
 /// by a turn of that hart that returns or faults. A hart has more frames after a turn exactly where it crossed in it.
 pub fn gate_calls_return()
     ensures back { (p : Schedule) (s : State) (h m n : ℕ) → IsValid s.core →

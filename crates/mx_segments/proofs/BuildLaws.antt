@@ -1,5 +1,7 @@
 -- Lists that are filled row by row.
-use Rattle.std.proofs.Common.{◌≡◌, ℕ, zero, suc, ◌+◌, ◌<◌, ◌≤◌, true, false, cond, List, [], ◌∷◌, Option, None, is_none, length, get_or, set, replicate, sum_by, refl, sym, ◌∙◌, ap, subst, arith, inl, inr, length-set, get_or-set_same, get_or-set_other}
+use Rattle.std.proofs.Common.{◌≡◌, ℕ, zero, suc, ◌+◌, ◌<◌, ◌≤◌, true, false, cond, List, [], ◌∷◌, Option, None, is_none, length, get_or}
+use Rattle.std.proofs.Common.{set, replicate, sum_by, refl, sym, ◌∙◌, ap, subst, arith, inl, inr, length-set, get_or-set_same}
+use Rattle.std.proofs.Common.{get_or-set_other}
 use Rattle.std.proofs.Common.{map as list_map}
 use Rattle.std.proofs.lemmas.Bool.{cases_eq}
 use Rattle.std.proofs.lemmas.List.{same_lists, get_or_default, length-replicate, length-map, get_or-map}
@@ -37,7 +39,8 @@ free_moved fs ls fs' ls' row st st' keeps within =
       | inl e ↦ (let G : ℕ → Type 0 = λ x. get_or ls' x d ≡ get_or (set ls row (list_at ls' row)) x d in
           let row_lt : row < length ls' = omega (arith, keeps.rows) in
           subst G (sym e) (get_or_default ls' row d [] row_lt ∙ sym (get_or-set_same ls row (list_at ls' row) d within)))
-      | inr ne ↦ (get_or_default ls' k d [] lt ∙ keeps.chains k ne ∙ get_or_default ls k [] d below ∙ sym (get_or-set_other ls row k (list_at ls' row) d ne))
+      | inr ne ↦ (get_or_default ls' k d [] lt ∙ keeps.chains k ne ∙ get_or_default ls k [] d below
+          ∙ sym (get_or-set_other ls row k (list_at ls' row) d ne))
     ]) in
     let sums = sum_by-set length ls row (list_at ls' row) [] within in
     let whole : sum_by length ls' ≡ sum_by length (set ls row (list_at ls' row)) = ap (λ (x : List (List ℕ)). sum_by length x) same in
@@ -47,7 +50,8 @@ free_moved fs ls fs' ls' row st st' keeps within =
     omega (arith, sums, whole)
 
 -- one entry and zeros after it are the chain of a map without permissions
-pub start_chain : (words frames : ℕ) (stored : ℕ → ℕ) → 1 ≤ words → frames ≡ 1 → stored 0 ≡ 2147483648 → ((k : ℕ) → 0 < k → k < 64 → stored k ≡ 0) →
+pub start_chain : (words frames : ℕ) (stored : ℕ → ℕ) → 1 ≤ words → frames ≡ 1 → stored 0 ≡ 2147483648
+    → ((k : ℕ) → 0 < k → k < 64 → stored k ≡ 0) →
     IsChain words frames stored (map [] words)
 start_chain words frames stored pos one first zeros =
     let m = first_spans words [] 0 in
@@ -80,13 +84,15 @@ list_at-empty (suc n) (suc row) = list_at-empty n row
 none_longer : (n : ℕ) → sum_by (λ (l : List ℕ). length l) (replicate n []) ≡ 0
 none_longer zero = refl
 none_longer (suc n) =
-    let more : sum_by (λ (l : List ℕ). length l) ([] ∷ replicate n []) ≡ 0 + sum_by (λ (l : List ℕ). length l) (replicate n []) = sum_by-cons (λ (l : List ℕ). length l) [] (replicate n []) in
+    let more : sum_by (λ (l : List ℕ). length l) ([] ∷ replicate n []) ≡ 0 + sum_by (λ (l : List ℕ). length l) (replicate n []) =
+    sum_by-cons (λ (l : List ℕ). length l) [] (replicate n []) in
     omega (arith, more, none_longer n)
 
 pub all_free : (n : ℕ) → free_in (replicate n None) ≡ n
 all_free zero = refl
 all_free (suc n) =
-    let more : free_in (None ∷ replicate n None) ≡ 1 + free_in (replicate n None) = sum_by-cons (λ (o : Option (List ℕ)). cond (is_none o) 1 0) None (replicate n None) in
+    let more : free_in (None ∷ replicate n None) ≡ 1 + free_in (replicate n None) =
+    sum_by-cons (λ (o : Option (List ℕ)). cond (is_none o) 1 0) None (replicate n None) in
     omega (arith, more, all_free n)
 
 pub empty_store : (frames rows : ℕ) → IsStore (replicate frames None) (replicate rows [])
@@ -100,13 +106,17 @@ empty_store frames rows =
 
 -- the maps of the rows
 pub maps_of_rows : (words : ℕ) (fs : Frames) (ls : List (List ℕ)) (rows : List (List Span)) → length ls ≡ length rows →
-    ((q : ℕ) → q < length ls → map_in words fs ls q ≡ row_map words (get_or rows q [])) → maps_in words fs ls ≡ list_map (row_map words) rows
+    ((q : ℕ) → q < length ls → map_in words fs ls q ≡ row_map words (get_or rows q []))
+    → maps_in words fs ls ≡ list_map (row_map words) rows
 maps_of_rows words fs ls rows len each =
-    same_lists (maps_in words fs ls) (list_map (row_map words) rows) (length-maps_in words fs ls ∙ len ∙ sym (length-map rows (row_map words)))
+    same_lists (maps_in words fs ls) (list_map (row_map words) rows) (length-maps_in words fs ls ∙ len
+    ∙ sym (length-map rows (row_map words)))
     (λ k d lt. let below : k < length ls = omega (arith, length-maps_in words fs ls) in
     maps_in-at words fs ls k d below ∙ each k below ∙ sym (get_or-map (row_map words) rows k [] d (omega (arith, len))))
 
-pub need_of_rows : (words : ℕ) (rows : List (List Span)) → sum_by segment_frames (list_map (row_map words) rows) ≡ sum_by (λ row. segment_frames (row_map words row)) rows
+pub need_of_rows : (words : ℕ) (rows : List (List Span)) → sum_by segment_frames (list_map (row_map words) rows)
+    ≡ sum_by (λ row. segment_frames (row_map words row)) rows
 need_of_rows words rows =
-    sum_by_same segment_frames (λ row. segment_frames (row_map words row)) (list_map (row_map words) rows) rows [] [] (length-map rows (row_map words))
+    sum_by_same segment_frames (λ row. segment_frames (row_map words row)) (list_map (row_map words) rows) rows [] []
+    (length-map rows (row_map words))
     (λ i lt. ap segment_frames (get_or-map (row_map words) rows i [] [] (omega (arith, length-map rows (row_map words)))))

@@ -1,5 +1,6 @@
 -- What a permission laid over a range does to the runs of a map, and to the entries of a chain.
-use Rattle.std.proofs.Common.{◌≡◌, ℕ, ◌+◌, ◌-◌, ◌<◌, ◌≤◌, min, true, false, not, ◌==◌, ◌&&◌, ◌||◌, nat_lt, List, length, sym, ◌∙◌, ap, subst, arith, inl, inr}
+use Rattle.std.proofs.Common.{◌≡◌, ℕ, ◌+◌, ◌-◌, ◌<◌, ◌≤◌, min, true, false, not, ◌==◌, ◌&&◌, ◌||◌, nat_lt, List, length, sym, ◌∙◌, ap}
+use Rattle.std.proofs.Common.{subst, arith, inl, inr}
 use Rattle.std.proofs.lemmas.Bool.{cases_lt, cases_eq, cases_order}
 use Rattle.std.proofs.lemmas.Bool.Decides.{nat_tests}
 use Rattle.mx_words.specs.declared.perm.Perm.{Perm}
@@ -9,7 +10,8 @@ use Rattle.mx_words.specs.Counting.{bit, count_below}
 use Rattle.mx_words.specs.Newest.{Laid, laid}
 use Rattle.mx_words.specs.Runs.{runs}
 use Rattle.mx_words.specs.Starts.{is_start}
-use Rattle.mx_words.proofs.CountingLaws.{count_below_agree, count_below_along, count_below_still, count_below-more, count_below-mono, count_below_after}
+use Rattle.mx_words.proofs.CountingLaws.{count_below_agree, count_below_along, count_below_still, count_below-more, count_below-mono}
+use Rattle.mx_words.proofs.CountingLaws.{count_below_after}
 use Rattle.mx_words.proofs.OverlayLaws.{laid_in, laid_below, laid_behind, length-laid}
 use Rattle.mx_words.proofs.RunLaws.{runs-count, same_refl}
 use Rattle.mx_words.specs.Changes.{grant_of}
@@ -18,7 +20,8 @@ use Rattle.mx_segments.specs.declared.plan.Plan.{Plan}
 use Rattle.mx_segments.specs.Entries.{entry_word, IsChain}
 use Rattle.mx_segments.specs.Plan.{IsPlan, IsLaid, kept, total}
 
-module _ (words : ℕ) (m : List Perm) (len : length m ≡ words) (first count : ℕ) (perm : Perm) (some : 0 < count) (inside : first + count ≤ words) where
+module _ (words : ℕ) (m : List Perm) (len : length m ≡ words) (first count : ℕ) (perm : Perm) (some : 0 < count)
+    (inside : first + count ≤ words) where
   abbrev g : Laid Perm
   g = grant_of first count perm
 
@@ -40,7 +43,8 @@ module _ (words : ℕ) (m : List Perm) (len : length m ≡ words) (first count :
   -- the test of two neighbours, after the first word
   alike : (i : ℕ) → perm_at new (i - 1) ≡ perm_at m (i - 1) → perm_at new i ≡ perm_at m i → 0 < i → is_start new i ≡ is_start m i
   alike i e f pos =
-      start_step new i pos ∙ ap (λ p. not (same p (perm_at new i))) e ∙ ap (λ p. not (same (perm_at m (i - 1)) p)) f ∙ sym (start_step m i pos)
+      start_step new i pos ∙ ap (λ p. not (same p (perm_at new i))) e ∙ ap (λ p. not (same (perm_at m (i - 1)) p)) f
+      ∙ sym (start_step m i pos)
 
   pub start_below : (i : ℕ) → i < first → is_start new i ≡ is_start m i
   start_below i lt = elim (cases_eq i 0) [
@@ -68,7 +72,8 @@ module _ (words : ℕ) (m : List Perm) (len : length m ≡ words) (first count :
 
   pub start_end : is_start new (first + count) ≡ not (same perm (perm_at m (first + count)))
   start_end =
-      start_step new (first + count) (omega arith) ∙ ap (λ p. not (same p (perm_at new (first + count)))) (new_in (first + count - 1) (omega arith) (omega arith))
+      start_step new (first + count) (omega arith) ∙ ap (λ p. not (same p (perm_at new (first + count))))
+      (new_in (first + count - 1) (omega arith) (omega arith))
       ∙ ap (λ p. not (same perm p)) (new_behind (first + count) (omega arith))
 
   -- the counts
@@ -83,7 +88,8 @@ module _ (words : ℕ) (m : List Perm) (len : length m ≡ words) (first count :
     to_range = omega (arith, count_below-more first (is_start new), before_is first (omega arith), is.before, ap bit starts_is)
 
     pub in_range : (x : ℕ) → first < x → x ≤ first + count → count_below x (is_start new) ≡ plan.before + bit plan.starts
-    in_range x lt le = count_below_still (first + 1) x (is_start new) (omega arith) (λ i from below. start_inside i (omega arith) (omega arith)) ∙ to_range
+    in_range x lt le = count_below_still (first + 1) x (is_start new) (omega arith) (λ i from below.
+        start_inside i (omega arith) (omega arith)) ∙ to_range
 
     ends_is : first + count < words → is_start new (first + count) ≡ plan.ends
     ends_is lt =
@@ -107,11 +113,19 @@ module _ (words : ℕ) (m : List Perm) (len : length m ≡ words) (first count :
         is.behind ∙ ap (λ x. count_below x (is_start m)) e
 
     to_end : first + count < words → count_below (first + count + 1) (is_start new) ≡ kept plan
-    to_end lt = omega (arith, count_below-more (first + count) (is_start new), in_range (first + count) (omega arith) (omega arith), ap bit (ends_is lt))
+    to_end lt = omega (
+      arith,
+      count_below-more (first + count) (is_start new),
+      in_range (first + count) (omega arith) (omega arith),
+      ap bit
+          (ends_is lt),
+    )
 
-    pub after : (x : ℕ) → first + count < x → x ≤ words → count_below x (is_start new) + plan.behind ≡ count_below x (is_start m) + kept plan
+    pub after : (x : ℕ) → first + count < x → x ≤ words → count_below x (is_start new) + plan.behind ≡ count_below x (is_start m)
+        + kept plan
     after x lt le =
-        let along = count_below_along (first + count + 1) x (is_start new) (is_start m) (omega arith) (λ i from below. start_behind i (omega arith)) in
+        let along = count_below_along (first + count + 1) x (is_start new) (is_start m) (omega arith) (λ i from below.
+        start_behind i (omega arith)) in
         omega (arith, along, to_end (omega arith), behind_is (omega arith))
 
     all_is : plan.all ≡ count_below words (is_start m)
@@ -138,7 +152,8 @@ module _ (words : ℕ) (m : List Perm) (len : length m ≡ words) (first count :
           let none : bit plan.ends ≡ 0 = ap bit (no_end e) in
           let behind : plan.behind ≡ count_below words (is_start m) = is.behind ∙ ap (λ x. count_below x (is_start m)) whole in
           let range = in_range (first + count) (omega arith) (omega arith) in
-          let at_end : count_below words (is_start new) ≡ count_below (first + count) (is_start new) = ap (λ x. count_below x (is_start new)) (sym e) in
+          let at_end : count_below words (is_start new) ≡ count_below (first + count) (is_start new) =
+          ap (λ x. count_below x (is_start new)) (sym e) in
           omega (arith, runs_new, all_is, none, behind, range, at_end))
     ]
 
@@ -150,7 +165,8 @@ module _ (words : ℕ) (m : List Perm) (len : length m ≡ words) (first count :
           let was : is_start m i ≡ true = sym (start_below i lt) ∙ start in
           let place = before_is i (omega arith) in
           let few : count_below i (is_start m) < plan.before = omega (arith, is.before, count_below_after i first (is_start m) lt was) in
-          ap stored' place ∙ laid_down.same (count_below i (is_start m)) few ∙ chain.entries i (omega arith) was ∙ ap (entry_word i) (sym (new_below i lt))
+          ap stored' place ∙ laid_down.same (count_below i (is_start m)) few ∙ chain.entries i (omega arith) was
+          ∙ ap (entry_word i) (sym (new_below i lt))
 
       entry_first : is_start new first ≡ true → stored' (count_below first (is_start new)) ≡ entry_word first (perm_at new first)
       entry_first start =
@@ -163,21 +179,26 @@ module _ (words : ℕ) (m : List Perm) (len : length m ≡ words) (first count :
           ap stored' (in_range (first + count) (omega arith) (omega arith)) ∙ laid_down.ends (sym (ends_is lt) ∙ start)
           ∙ ap (entry_word (first + count)) (is.next ∙ sym (new_behind (first + count) (omega arith)))
 
-      entry_behind : (i : ℕ) → first + count < i → i < words → is_start new i ≡ true → stored' (count_below i (is_start new)) ≡ entry_word i (perm_at new i)
+      entry_behind : (i : ℕ) → first + count < i → i < words → is_start new i ≡ true
+          → stored' (count_below i (is_start new)) ≡ entry_word i (perm_at new i)
       entry_behind i lt below start =
           let was : is_start m i ≡ true = sym (start_behind i lt) ∙ start in
           let few : count_below i (is_start m) < plan.all = omega (arith, all_is, count_below_after i words (is_start m) below was) in
-          let from : plan.behind ≤ count_below i (is_start m) = omega (arith, behind_is (omega arith), count_below-mono (first + count + 1) i (is_start m) (omega arith)) in
-          let place : count_below i (is_start new) ≡ count_below i (is_start m) + kept plan - plan.behind = omega (arith, after i lt (omega arith)) in
+          let from : plan.behind ≤ count_below i (is_start m) =
+          omega (arith, behind_is (omega arith), count_below-mono (first + count + 1) i (is_start m) (omega arith)) in
+          let place : count_below i (is_start new) ≡ count_below i (is_start m) + kept plan - plan.behind =
+          omega (arith, after i lt (omega arith)) in
           ap stored' place ∙ laid_down.moved (count_below i (is_start m)) from few ∙ chain.entries i below was
           ∙ ap (entry_word i) (sym (new_behind i (omega arith)))
 
       entry_new : (i : ℕ) → i < words → is_start new i ≡ true → stored' (count_below i (is_start new)) ≡ entry_word i (perm_at new i)
       entry_new i lt start = elim (cases_order i first) [
-        | inl e ↦ (let E : ℕ → Type 0 = λ x. is_start new x ≡ true → stored' (count_below x (is_start new)) ≡ entry_word x (perm_at new x) in subst E (sym e) entry_first start)
+        | inl e ↦ (let E : ℕ → Type 0 = λ x. is_start new x ≡ true
+            → stored' (count_below x (is_start new)) ≡ entry_word x (perm_at new x) in subst E (sym e) entry_first start)
         | inr (inl h) ↦ entry_below i h start
         | inr (inr h) ↦ elim (cases_order i (first + count)) [
-          | inl e ↦ (let E : ℕ → Type 0 = λ x. x < words → is_start new x ≡ true → stored' (count_below x (is_start new)) ≡ entry_word x (perm_at new x) in subst E (sym e) entry_end lt start)
+          | inl e ↦ (let E : ℕ → Type 0 = λ x. x < words → is_start new x ≡ true
+              → stored' (count_below x (is_start new)) ≡ entry_word x (perm_at new x) in subst E (sym e) entry_end lt start)
           | inr (inl k) ↦ (let both : true ≡ false = sym start ∙ start_inside i h k in cc)
           | inr (inr k) ↦ entry_behind i k lt start
         ]

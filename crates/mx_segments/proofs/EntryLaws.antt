@@ -1,5 +1,6 @@
 -- What the entries of a chain tell of its map.
-use Rattle.std.proofs.Common.{◌≡◌, ℕ, ◌+◌, ◌-◌, ◌*◌, ◌/◌, ◌%◌, ◌<◌, ◌≤◌, Bool, true, false, ◌&&◌, nat_lt, nat_le, List, length, unwrap_or, refl, sym, ◌∙◌, ap, subst, arith, inl, inr}
+use Rattle.std.proofs.Common.{◌≡◌, ℕ, ◌+◌, ◌-◌, ◌*◌, ◌/◌, ◌%◌, ◌<◌, ◌≤◌, Bool, true, false, ◌&&◌, nat_lt, nat_le, List, length, unwrap_or}
+use Rattle.std.proofs.Common.{refl, sym, ◌∙◌, ap, subst, arith, inl, inr}
 use Rattle.std.proofs.lemmas.Bool.{cases_lt}
 use Rattle.std.proofs.lemmas.Bool.Decides.{nat_tests}
 use Rattle.std.proofs.lemmas.List.{get_or_default}
@@ -11,7 +12,8 @@ use Rattle.mx_words.specs.Counting.{count_below}
 use Rattle.mx_words.specs.Runs.{runs}
 use Rattle.mx_words.specs.Starts.{is_start}
 use Rattle.mx_words.proofs.NumberLaws.{number-small, from_number-number}
-use Rattle.mx_words.proofs.CountingLaws.{IsCounted, count_below_find, count_below_is, count_below_yes, count_below-mono, count_below_after, count_below_same, list_below_is}
+use Rattle.mx_words.proofs.CountingLaws.{IsCounted, count_below_find, count_below_is, count_below_yes, count_below-mono, count_below_after}
+use Rattle.mx_words.proofs.CountingLaws.{count_below_same, list_below_is}
 use Rattle.mx_words.proofs.RunLaws.{runs-count, same_in_run, start_differs, same_from, same_eq, IsRound}
 use Rattle.mx_segments.specs.Entries.{entry_word, perm_of, begins_before, run_start, entry_of, read_at, read_map, IsChain}
 
@@ -86,7 +88,8 @@ module _ (words frames : ℕ) (stored : ℕ → ℕ) (m : List Perm) (chain : Is
   pub entries_counted : (x : ℕ) → x ≤ words → count_below (64 * frames) (λ k. begins_before (stored k) x) ≡ count_below x (is_start m)
   entries_counted x le =
       let few : count_below x (is_start m) ≤ 64 * frames = omega (arith, count_below-mono x words (is_start m) le, runs_are, runs_held) in
-      count_below_is (64 * frames) (count_below x (is_start m)) (λ k. begins_before (stored k) x) few (λ k lt. before_passes x k le lt) (λ k from lt. behind_fails x k le from lt)
+      count_below_is (64 * frames) (count_below x (is_start m)) (λ k. begins_before (stored k) x) few (λ k lt. before_passes x k le lt)
+      (λ k from lt. behind_fails x k le from lt)
 
   -- the run that holds word i: it begins at `first` and is run k, and the next begins at `behind`, if it lies in RAM
   pub record IsRunAt (i first k : ℕ) : Type 0 where
@@ -103,7 +106,8 @@ module _ (words frames : ℕ) (stored : ℕ → ℕ) (m : List Perm) (chain : Is
       some : 1 ≤ count_below (i + 1) (is_start m)
       some = omega (arith, count_below_after 0 (i + 1) (is_start m) (omega arith) refl)
 
-      by : (first : ℕ) × IsCounted (i + 1) (is_start m) (count_below (i + 1) (is_start m) - 1) first → (first : ℕ) × IsRunAt i first (count_below (i + 1) (is_start m) - 1)
+      by : (first : ℕ) × IsCounted (i + 1) (is_start m) (count_below (i + 1) (is_start m) - 1) first
+          → (first : ℕ) × IsRunAt i first (count_below (i + 1) (is_start m) - 1)
       by (first, found) =
           let below = found.below in
           let place = found.place in
@@ -111,7 +115,8 @@ module _ (words frames : ℕ) (stored : ℕ → ℕ) (m : List Perm) (chain : Is
           let step = count_below_yes first (is_start m) found.passes in
           let still : count_below (i + 1) (is_start m) ≡ count_below (first + 1) (is_start m) = omega (arith, some, step, place) in
           let alike : (j : ℕ) → first ≤ j → j ≤ i → perm_at m first ≡ perm_at m j =
-          λ j from to. same_in_run m first j from (λ x after most. count_below_same (first + 1) (i + 1) x (is_start m) still (omega arith) (omega arith)) in
+          λ j from to. same_in_run m first j from (λ x after most.
+          count_below_same (first + 1) (i + 1) x (is_start m) still (omega arith) (omega arith)) in
           let within : first < words = omega arith in (
             first,
             record {
@@ -142,7 +147,8 @@ module _ (words frames : ℕ) (stored : ℕ → ℕ) (m : List Perm) (chain : Is
       let step = count_below_yes i (is_start m) found.passes in
       count_below_is (length m) i (λ j. nat_le (count_below (j + 1) (is_start m)) k) within
       (λ j lt. at_most (count_below (j + 1) (is_start m)) k (omega (arith, place, count_below-mono (j + 1) i (is_start m) (omega arith))))
-      (λ j from lt. more (count_below (j + 1) (is_start m)) k (omega (arith, place, step, count_below-mono (i + 1) (j + 1) (is_start m) (omega arith))))
+      (λ j from lt. more (count_below (j + 1) (is_start m)) k
+      (omega (arith, place, step, count_below-mono (i + 1) (j + 1) (is_start m) (omega arith))))
     where
       at_most : (a b : ℕ) → a ≤ b → nat_le a b ≡ true
       at_most a b le = grind (arith, nat_tests)
@@ -153,7 +159,8 @@ module _ (words frames : ℕ) (stored : ℕ → ℕ) (m : List Perm) (chain : Is
   pub run_start_end : (k : ℕ) → runs m ≤ k → run_start m k ≡ words
   run_start_end k le =
       count_below_is (length m) (length m) (λ j. nat_le (count_below (j + 1) (is_start m)) k) (omega arith)
-      (λ j lt. at_most (count_below (j + 1) (is_start m)) k (omega (arith, runs_are, chain.length_is, count_below-mono (j + 1) words (is_start m) (omega (arith, chain.length_is)))))
+      (λ j lt. at_most (count_below (j + 1) (is_start m)) k (omega
+      (arith, runs_are, chain.length_is, count_below-mono (j + 1) words (is_start m) (omega (arith, chain.length_is)))))
       (λ j from lt. absurd (omega arith))
       ∙ chain.length_is
     where
@@ -165,7 +172,8 @@ module _ (words frames : ℕ) (stored : ℕ → ℕ) (m : List Perm) (chain : Is
   stored_entry k lt = by (count_below_find words (is_start m) k (omega (arith, runs_are)))
     where
       by : (i : ℕ) × IsCounted words (is_start m) k i → stored k ≡ entry_of m k
-      by (i, found) = ap stored (sym found.place) ∙ chain.entries i found.below found.passes ∙ ap (λ x. entry_word x (perm_at m x)) (sym (run_start_is k i found))
+      by (i, found) = ap stored (sym found.place) ∙ chain.entries i found.below found.passes
+          ∙ ap (λ x. entry_word x (perm_at m x)) (sym (run_start_is k i found))
 
   pub entry_some : (x : ℕ) (p : Perm) → 0 < entry_word x p
   entry_some x p = omega arith
@@ -246,9 +254,11 @@ module _ (words frames : ℕ) (stored : ℕ → ℕ) (m : List Perm) (chain : Is
               let step = count_below_yes first (is_start m) r.begins in
               let still : count_below b (is_start m) ≡ count_below (first + 1) (is_start m) = omega (arith, n.place, r.place, step) in
               let alike : (j : ℕ) → first ≤ j → j < b → perm_at m first ≡ perm_at m j =
-              λ j from to. same_in_run m first j from (λ x behind most. count_below_same (first + 1) b x (is_start m) still (omega arith) (omega arith)) in
+              λ j from to. same_in_run m first j from (λ x behind most.
+              count_below_same (first + 1) b x (is_start m) still (omega arith) (omega arith)) in
               let here : perm_at m first ≡ perm_at m i = alike i left after in
-              let counted : IsCounted words (is_start m) (count_below (i + 1) (is_start m) - 1) first = record { below = omega arith; passes = r.begins; place = r.place } in
+              let counted : IsCounted words (is_start m) (count_below (i + 1) (is_start m) - 1) first =
+              record { below = omega arith; passes = r.begins; place = r.place } in
               let round : IsRound m 0 words first b i = record {
                 from = omega arith;
                 left = left;
@@ -256,7 +266,8 @@ module _ (words frames : ℕ) (stored : ℕ → ℕ) (m : List Perm) (chain : Is
                 to = within;
                 inside = λ j from to. sym here ∙ alike j from to;
                 before = λ some. ap (λ p. same p (perm_at m (first - 1))) (sym here) ∙ start_differs m first some r.begins;
-                after = λ below. (let differs : same (perm_at m b) (perm_at m (b - 1)) ≡ false = start_differs m b (omega arith) (n.begins below) in
+                after = λ below. (let differs : same (perm_at m b) (perm_at m (b - 1)) ≡ false =
+                    start_differs m b (omega arith) (n.begins below) in
                     let last : perm_at m (b - 1) ≡ perm_at m i = sym (alike (b - 1) (omega arith) (omega arith)) ∙ here in
                     same_sym (perm_at m b) (perm_at m i) (ap (same (perm_at m b)) (sym last) ∙ differs));
               } in

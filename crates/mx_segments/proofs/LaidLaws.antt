@@ -12,7 +12,8 @@ use Rattle.mx_segments.proofs.EntryLaws.{read_map_is}
 pub means : (words frames : ℕ) (stored : ℕ → ℕ) (m : List Perm) → IsChain words frames stored m → read_map words frames stored ≡ m
 means words frames stored m chain = read_map_is words frames stored m chain
 
-pub means_itself : (words frames : ℕ) (stored : ℕ → ℕ) (m : List Perm) → IsChain words frames stored m → IsChain words frames stored (read_map words frames stored)
+pub means_itself : (words frames : ℕ) (stored : ℕ → ℕ) (m : List Perm) → IsChain words frames stored m
+    → IsChain words frames stored (read_map words frames stored)
 means_itself words frames stored m chain =
     let C : List Perm → Type 0 = λ x. IsChain words frames stored x in
     subst C (sym (means words frames stored m chain)) chain

@@ -21,7 +21,8 @@ keeps_trans fs ls fs' ls' fs'' ls'' row a b = record {
 pub rewritten_refl : (fs : Frames) (ls : List (List ℕ)) (row : ℕ) → IsStore fs ls → IsRewritten fs fs ls row
 rewritten_refl fs ls row store = record { store = store; others = keeps_refl fs ls row; free = refl }
 
-pub rewritten_trans : (fs fs' fs'' : Frames) (ls : List (List ℕ)) (row : ℕ) → IsRewritten fs fs' ls row → IsRewritten fs' fs'' ls row → IsRewritten fs fs'' ls row
+pub rewritten_trans : (fs fs' fs'' : Frames) (ls : List (List ℕ)) (row : ℕ) → IsRewritten fs fs' ls row → IsRewritten fs' fs'' ls row
+    → IsRewritten fs fs'' ls row
 rewritten_trans fs fs' fs'' ls row a b = record {
   store = b.store;
   others = keeps_trans fs ls fs' ls fs'' ls row a.others b.others;

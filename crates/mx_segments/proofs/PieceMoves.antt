@@ -6,9 +6,11 @@ use Rattle.mx_segments.specs.Store.{frames_in, frame_in, word_in, IsStore, IsPie
 use Rattle.mx_segments.proofs.StoreLaws.{word_still, place_within}
 
 -- a piece of a frame is copied into a frame
-module _ (fs fs' : Frames) (ls : List (List ℕ)) (st : IsStore fs ls) (row from to count : ℕ) (from_room : from + count ≤ 64 * frames_in ls row) (to_room : to + count ≤ 64 * frames_in ls row)
+module _ (fs fs' : Frames) (ls : List (List ℕ)) (st : IsStore fs ls) (row from to count : ℕ)
+    (from_room : from + count ≤ 64 * frames_in ls row) (to_room : to + count ≤ 64 * frames_in ls row)
     (one_source : from % 64 + count ≤ 64) (one_target : to % 64 + count ≤ 64) (some : 0 < count)
-    (copied : (k : ℕ) → k < count → word_at fs' (frame_in ls row (to / 64)) (to % 64 + k) ≡ word_at fs (frame_in ls row (from / 64)) (from % 64 + k))
+    (copied : (k : ℕ) → k < count → word_at fs' (frame_in ls row (to / 64)) (to % 64 + k)
+    ≡ word_at fs (frame_in ls row (from / 64)) (from % 64 + k))
     (below : (k : ℕ) → k < to % 64 → word_at fs' (frame_in ls row (to / 64)) k ≡ word_at fs (frame_in ls row (to / 64)) k)
     (behind : (k : ℕ) → to % 64 + count ≤ k → k < 64 → word_at fs' (frame_in ls row (to / 64)) k ≡ word_at fs (frame_in ls row (to / 64)) k)
     (elsewhere : (g : ℕ) → g ≢ frame_in ls row (to / 64) → frame_at fs' g ≡ frame_at fs g) where
@@ -27,9 +29,11 @@ module _ (fs fs' : Frames) (ls : List (List ℕ)) (st : IsStore fs ls) (row from
   other-frame : (j : ℕ) → j < 64 * frames_in ls row → j / 64 ≢ to / 64 → word_in fs' ls row j ≡ word_in fs ls row j
   other-frame j lt ne =
       word_still fs fs' (frame_in ls row (to / 64)) elsewhere (frame_in ls row (j / 64)) (j % 64)
-      (λ e. ne (st.apart row (j / 64) row (to / 64) (place_within (frames_in ls row) j lt) (place_within (frames_in ls row) to (omega arith)) e).1)
+      (λ e. ne (st.apart row (j / 64) row (to / 64) (place_within (frames_in ls row) j lt)
+      (place_within (frames_in ls row) to (omega arith)) e).1)
 
-  same-frame : (j : ℕ) → j / 64 ≡ to / 64 → word_at fs' (frame_in ls row (to / 64)) (j % 64) ≡ word_at fs (frame_in ls row (to / 64)) (j % 64) →
+  same-frame : (j : ℕ) → j / 64 ≡ to / 64 → word_at fs' (frame_in ls row (to / 64)) (j % 64)
+      ≡ word_at fs (frame_in ls row (to / 64)) (j % 64) →
       word_in fs' ls row j ≡ word_in fs ls row j
   same-frame j e same =
       ap (λ n. word_at fs' (frame_in ls row n) (j % 64)) e ∙ same ∙ ap (λ n. word_at fs (frame_in ls row n) (j % 64)) (sym e)
@@ -57,7 +61,8 @@ pub record IsMovedUp (base cur : ℕ → ℕ) (from to by end size : ℕ) : Type
   pub below : (j : ℕ) → j < end + by → cur j ≡ base j
   pub behind : (j : ℕ) → to + by ≤ j → j < size → cur j ≡ base j
 
-pub up-more : (base cur new : ℕ → ℕ) (from to by end begin size : ℕ) → to + by ≤ size → from ≤ begin → begin < end → IsMovedUp base cur from to by end size →
+pub up-more : (base cur new : ℕ → ℕ) (from to by end begin size : ℕ) → to + by ≤ size → from ≤ begin → begin < end
+    → IsMovedUp base cur from to by end size →
     IsPieceCopied cur new begin (begin + by) (end - begin) size → IsMovedUp base new from to by begin size
 up-more base cur new from to by end begin size room least less m p =
     let most = m.to_end in
@@ -82,7 +87,8 @@ pub record IsMovedDown (base cur : ℕ → ℕ) (from to by begin size : ℕ) : 
   pub below : (j : ℕ) → j < from - by → cur j ≡ base j
   pub behind : (j : ℕ) → begin - by ≤ j → j < size → cur j ≡ base j
 
-pub down-more : (base cur new : ℕ → ℕ) (from to by begin end size : ℕ) → to ≤ size → by ≤ from → begin < end → end ≤ to → IsMovedDown base cur from to by begin size →
+pub down-more : (base cur new : ℕ → ℕ) (from to by begin end size : ℕ) → to ≤ size → by ≤ from → begin < end → end ≤ to
+    → IsMovedDown base cur from to by begin size →
     IsPieceCopied cur new begin (begin - by) (end - begin) size → IsMovedDown base new from to by end size
 down-more base cur new from to by begin end size room far more most m p =
     let least = m.from_begin in

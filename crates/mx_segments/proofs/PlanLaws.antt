@@ -1,5 +1,6 @@
 -- A plan that the code counts is the map's.
-use Rattle.std.proofs.Common.{◌≡◌, ℕ, ◌+◌, ◌-◌, ◌<◌, ◌≤◌, min, Bool, true, false, not, ◌==◌, ◌&&◌, ◌||◌, nat_lt, List, length, sym, ◌∙◌, ap, arith}
+use Rattle.std.proofs.Common.{◌≡◌, ℕ, ◌+◌, ◌-◌, ◌<◌, ◌≤◌, min, Bool, true, false, not, ◌==◌, ◌&&◌, ◌||◌, nat_lt, List, length, sym, ◌∙◌, ap}
+use Rattle.std.proofs.Common.{arith}
 use denote.Enum.Bare.{sameb}
 use Rattle.std.proofs.lemmas.Bool.Decides.{nat_tests}
 use Rattle.mx_words.specs.declared.perm.Perm.{Perm}
@@ -25,7 +26,8 @@ and_true a b x y lt e = let t : nat_lt a b ≡ true = grind (arith, nat_tests) i
 pub and_false : (a b : ℕ) (y : Bool) → b ≤ a → nat_lt a b ≡ (nat_lt a b && y)
 and_false a b y le = let t : nat_lt a b ≡ false = grind (arith, nat_tests) in t ∙ sym (ap (λ s. s && y) t)
 
-module _ (words : ℕ) (m : List Perm) (len : length m ≡ words) (first count : ℕ) (perm : Perm) (some : 0 < count) (inside : first + count ≤ words) (plan : Plan) where
+module _ (words : ℕ) (m : List Perm) (len : length m ≡ words) (first count : ℕ) (perm : Perm) (some : 0 < count)
+    (inside : first + count ≤ words) (plan : Plan) where
   pub plan_is : plan.before ≡ count_below (min first words) (is_start m) →
       plan.behind ≡ count_below (min (first + count + 1) words) (is_start m) →
       plan.all ≡ count_below (min words words) (is_start m) →
@@ -48,5 +50,20 @@ module _ (words : ℕ) (m : List Perm) (len : length m ≡ words) (first count :
   pub all-le : IsPlan m first count perm plan → plan.all ≤ words
   all-le is = omega (arith, is.all, runs-count m, count_below-le (length m) (is_start m))
 
-  pub order : IsPlan m first count perm plan → (plan.before ≤ plan.behind) × (plan.behind ≤ plan.all) × (plan.all ≤ words) × (total plan ≤ words)
-  order is = (before-le words m len first count perm some inside plan is, behind-le words m len first count perm some inside plan is, all-le is, omega (arith, total_is words m len first count perm some inside plan is, runs-count (laid (grant_of first count perm) m), count_below-le (length (laid (grant_of first count perm) m)) (is_start (laid (grant_of first count perm) m)), length-new words m len first count perm some inside))
+  pub order : IsPlan m first count perm plan → (plan.before ≤ plan.behind) × (plan.behind ≤ plan.all) × (plan.all ≤ words)
+      × (total plan ≤ words)
+  order is = (
+    before-le words m len first count perm some inside plan is,
+    behind-le words m len first count perm some inside plan is,
+    all-le
+        is,
+    omega (
+      arith,
+      total_is words m len first count perm some inside plan is,
+      runs-count
+          (laid (grant_of first count perm) m),
+      count_below-le (length (laid (grant_of first count perm) m))
+          (is_start (laid (grant_of first count perm) m)),
+      length-new words m len first count perm some inside,
+    ),
+  )

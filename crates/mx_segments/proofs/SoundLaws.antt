@@ -1,5 +1,6 @@
 -- What the code reads of the list at a row whose words are the entries of its map.
-use Rattle.std.proofs.Common.{◌≡◌, ℕ, ◌+◌, ◌-◌, ◌*◌, ◌<◌, ◌≤◌, min, Bool, true, false, List, length, refl, sym, ◌∙◌, ap, subst, arith, inl, inr}
+use Rattle.std.proofs.Common.{◌≡◌, ℕ, ◌+◌, ◌-◌, ◌*◌, ◌<◌, ◌≤◌, min, Bool, true, false, List, length, refl, sym, ◌∙◌, ap, subst, arith, inl}
+use Rattle.std.proofs.Common.{inr}
 use Rattle.std.proofs.lemmas.Bool.{cases_lt}
 use Rattle.mx_words.specs.declared.perm.Perm.{Perm}
 use Rattle.mx_words.specs.declared.perm.Span.{Span}
@@ -18,7 +19,8 @@ use Rattle.mx_pool.specs.Frames.{Frames}
 use Rattle.mx_segments.specs.Store.{frames_in, word_in}
 use Rattle.mx_segments.specs.Entries.{perm_of, begins_before, run_start, entry_of, entry_word}
 use Rattle.mx_segments.specs.Sound.{map_in, IsSound}
-use Rattle.mx_segments.proofs.EntryLaws.{runs_are, runs_held, before_passes, behind_fails, run_at, round, run_start_is, run_start_end, stored_entry, stored_some, stored_run, perm_of-entry}
+use Rattle.mx_segments.proofs.EntryLaws.{runs_are, runs_held, before_passes, behind_fails, run_at, round, run_start_is, run_start_end}
+use Rattle.mx_segments.proofs.EntryLaws.{stored_entry, stored_some, stored_run, perm_of-entry}
 
 abbrev made : ℕ → ℕ → Perm → Span
 made first next p = record { first = first; count = next - first; perm = p }
@@ -46,15 +48,18 @@ module _ (words : ℕ) (fs : Frames) (ls : List (List ℕ)) (row : ℕ) (sound :
   few_before x le = omega (arith, count_below-mono x words (is_start map) le, runs_are words frames stored map sound, few_runs)
 
   -- a test of the entry at k tells on which side of the count it stands
-  pub passed : (x k e : ℕ) (b : Bool) → x ≤ words → k < 64 * frames → e ≡ stored k → b ≡ begins_before e x → b ≡ true → k < count_below x (is_start map)
+  pub passed : (x k e : ℕ) (b : Bool) → x ≤ words → k < 64 * frames → e ≡ stored k → b ≡ begins_before e x → b ≡ true
+      → k < count_below x (is_start map)
   passed x k e b le lt is test yes' = elim (cases_lt k (count_below x (is_start map))) [
     | inl h ↦ h
-    | inr h ↦ (let both : true ≡ false = sym yes' ∙ test ∙ ap (λ n. begins_before n x) is ∙ behind_fails words frames stored map sound x k le h lt in cc)
+    | inr h ↦ (let both : true ≡ false = sym yes' ∙ test ∙ ap (λ n. begins_before n x) is
+        ∙ behind_fails words frames stored map sound x k le h lt in cc)
   ]
 
   pub failed : (x k e : ℕ) (b : Bool) → x ≤ words → e ≡ stored k → b ≡ begins_before e x → b ≡ false → count_below x (is_start map) ≤ k
   failed x k e b le is test no' = elim (cases_lt k (count_below x (is_start map))) [
-    | inl h ↦ (let both : false ≡ true = sym no' ∙ test ∙ ap (λ n. begins_before n x) is ∙ before_passes words frames stored map sound x k le h in cc)
+    | inl h ↦ (let both : false ≡ true = sym no' ∙ test ∙ ap (λ n. begins_before n x) is
+        ∙ before_passes words frames stored map sound x k le h in cc)
     | inr h ↦ h
   ]
 
@@ -73,14 +78,16 @@ module _ (words : ℕ) (fs : Frames) (ls : List (List ℕ)) (row : ℕ) (sound :
   at_word : (i : ℕ) → i < words → count_below (min (i + 1) words) (is_start map) ≡ count_below (i + 1) (is_start map)
   at_word i lt = let e : min (i + 1) words ≡ i + 1 = omega arith in ap (λ x. count_below x (is_start map)) e
 
-  pub perm_read : (i n e : ℕ) → i < words → n ≡ count_below (min (i + 1) words) (is_start map) → e ≡ stored (n - 1) → perm_of e ≡ perm_at map i
+  pub perm_read : (i n e : ℕ) → i < words → n ≡ count_below (min (i + 1) words) (is_start map) → e ≡ stored (n - 1)
+      → perm_of e ≡ perm_at map i
   perm_read i n e lt at is =
       let r = run_at words frames stored map sound i lt in
       ap perm_of (is ∙ ap (λ k. stored (k - 1)) (at ∙ at_word i lt)) ∙ ap perm_of r.1.entry ∙ perm_of-entry r.0 (perm_at map i)
 
   -- the entry of a run, and that there is none
   pub entry_read : (i e : ℕ) → i < 64 * frames → e ≡ stored i → 0 < e → e ≡ entry_of map i
-  entry_read i e lt is some = is ∙ stored_entry words frames stored map sound i (stored_run words frames stored map sound i lt (omega arith))
+  entry_read i e lt is some = is ∙ stored_entry words frames stored map sound i
+      (stored_run words frames stored map sound i lt (omega arith))
 
   pub no_run : (i e : ℕ) → e ≡ stored i → e ≡ 0 → runs map ≤ i
   no_run i e is none = elim (cases_lt i (runs map)) [
@@ -92,7 +99,8 @@ module _ (words : ℕ) (fs : Frames) (ls : List (List ℕ)) (row : ℕ) (sound :
   start_end i le = run_start_end words frames stored map sound i le
 
   -- the span of a word's run
-  round_of : (i n : ℕ) → i < words → n ≡ count_below (min (i + 1) words) (is_start map) → IsRound map 0 words (run_start map (n - 1)) (run_start map n) i
+  round_of : (i n : ℕ) → i < words → n ≡ count_below (min (i + 1) words) (is_start map)
+      → IsRound map 0 words (run_start map (n - 1)) (run_start map n) i
   round_of i n lt at =
       let r = round words frames stored map sound i lt in
       let e : n ≡ count_below (i + 1) (is_start map) = at ∙ at_word i lt in
@@ -113,7 +121,8 @@ module _ (words : ℕ) (fs : Frames) (ls : List (List ℕ)) (row : ℕ) (sound :
       let R : ℕ → Type 0 = λ x. IsRound map 0 x (run_start map (n - 1)) (run_start map n) i in
       let r' : IsRound map 0 (length map) (run_start map (n - 1)) (run_start map n) i = subst R (sym length_is) r in
       let whole = span_within_is map 0 (length map) (run_start map (n - 1)) (run_start map n) i (omega arith) r' in
-      ap (λ x. made x next p) is_first ∙ ap (λ x. made (run_start map (n - 1)) x p) is_next ∙ ap (made (run_start map (n - 1)) (run_start map n)) is_perm ∙ sym whole
+      ap (λ x. made x next p) is_first ∙ ap (λ x. made (run_start map (n - 1)) x p) is_next
+      ∙ ap (made (run_start map (n - 1)) (run_start map n)) is_perm ∙ sym whole
 
   -- the shown item of a word's run
   pub shown_read : (i n first next e : ℕ) → i < words → n ≡ count_below (min (i + 1) words) (is_start map) →
@@ -124,7 +133,8 @@ module _ (words : ℕ) (fs : Frames) (ls : List (List ℕ)) (row : ℕ) (sound :
       let k : n - 1 ≡ count_below (i + 1) (is_start map) - 1 = ap (λ x. x - 1) (at ∙ at_word i lt) in
       let found : IsCounted words (is_start map) (count_below (i + 1) (is_start map) - 1) r.0 =
       (let left = r.1.left in record { below = omega arith; passes = r.1.begins; place = r.1.place }) in
-      let start : run_start map (n - 1) ≡ r.0 = ap (run_start map) k ∙ run_start_is words frames stored map sound (count_below (i + 1) (is_start map) - 1) r.0 found in
+      let start : run_start map (n - 1) ≡ r.0 = ap (run_start map) k
+      ∙ run_start_is words frames stored map sound (count_below (i + 1) (is_start map) - 1) r.0 found in
       let entry : e ≡ entry_word first (perm_at map i) =
       is ∙ ap stored k ∙ r.1.entry ∙ ap (λ x. entry_word x (perm_at map i)) (sym (is_first ∙ start)) in
       ap (shown first next) entry ∙ ap shown_run (span_read i n first next (perm_at map i) lt at is_first is_next refl)

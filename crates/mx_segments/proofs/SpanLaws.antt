@@ -41,13 +41,18 @@ module _ (words : ℕ) (row : List Span) (is : IsRow words row) where
       let within = ends_within words row is n le in
       let m = first_spans words row n in
       let all = row_map words row in
-      let count_m : runs m ≡ count_below words (is_start m) = runs-count m ∙ ap (λ x. count_below x (is_start m)) (length-first words row is n) in
-      let count_all : runs all ≡ count_below words (is_start all) = runs-count all ∙ ap (λ x. count_below x (is_start all)) (length-map_of (list_map granted row) words) in
-      let before : count_below e (is_start m) ≡ count_below e (is_start all) = count_below_agree e (is_start m) (is_start all) (λ i lt. starts_alike n i le lt) in
+      let count_m : runs m ≡ count_below words (is_start m) = runs-count m
+      ∙ ap (λ x. count_below x (is_start m)) (length-first words row is n) in
+      let count_all : runs all ≡ count_below words (is_start all) = runs-count all
+      ∙ ap (λ x. count_below x (is_start all)) (length-map_of (list_map granted row) words) in
+      let before : count_below e (is_start m) ≡ count_below e (is_start all) =
+      count_below_agree e (is_start m) (is_start all) (λ i lt. starts_alike n i le lt) in
       let up = count_below-mono e words (is_start all) within in
       let most : count_below words (is_start m) ≤ count_below e (is_start m) + 1 = elim (cases_lt e words) [
-        | inl lt ↦ (let still = count_below_still (e + 1) words (is_start m) (omega arith) (λ i from below. no_start_behind n i le (omega arith)) in
+        | inl lt ↦ (let still = count_below_still (e + 1) words (is_start m) (omega arith) (λ i from below.
+            no_start_behind n i le (omega arith)) in
             omega (arith, still, count_below-more e (is_start m), bit-le (is_start m e)))
-        | inr ge ↦ (let whole : e ≡ words = omega arith in let c : count_below e (is_start m) ≡ count_below words (is_start m) = ap (λ x. count_below x (is_start m)) whole in omega (arith, c))
+        | inr ge ↦ (let whole : e ≡ words = omega arith in let c : count_below e (is_start m) ≡ count_below words (is_start m) =
+            ap (λ x. count_below x (is_start m)) whole in omega (arith, c))
       ] in
       omega (arith, count_m, count_all, before, up, most)

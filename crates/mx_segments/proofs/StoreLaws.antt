@@ -1,5 +1,7 @@
 -- What the writes of a word, and a frame more or less, do to the words of the lists.
-use Rattle.std.proofs.Common.{◌≡◌, ◌≢◌, ℕ, ◌+◌, ◌-◌, ◌*◌, ◌/◌, ◌%◌, ◌<◌, ◌≤◌, true, false, List, [], ◌∷◌, ◌++◌, Option, Some, None, is_some, unwrap_or, length, get_or, set, take, replicate, sum_by, refl, sym, ◌∙◌, ap, subst, arith, inl, inr, ◌⊎◌, length-take, get_or-set_same, get_or-set_other, get_or-take}
+use Rattle.std.proofs.Common.{◌≡◌, ◌≢◌, ℕ, ◌+◌, ◌-◌, ◌*◌, ◌/◌, ◌%◌, ◌<◌, ◌≤◌, true, false, List, [], ◌∷◌, ◌++◌, Option, Some, None, is_some}
+use Rattle.std.proofs.Common.{unwrap_or, length, get_or, set, take, replicate, sum_by, refl, sym, ◌∙◌, ap, subst, arith, inl, inr, ◌⊎◌}
+use Rattle.std.proofs.Common.{length-take, get_or-set_same, get_or-set_other, get_or-take}
 use Rattle.std.proofs.lemmas.Bool.{cases_lt, cases_eq}
 use Rattle.std.proofs.lemmas.List.{get_or_append_left, get_or_push, get_or-replicate, length_push}
 use Rattle.std.proofs.lemmas.List.Sums.{sum_by-set}
@@ -42,7 +44,8 @@ module _ (fs fs' : Frames) (ls : List (List ℕ)) (st : IsStore fs ls) (row i : 
     total = total;
     chains = λ other ne. refl;
     words = λ other j ne lt. word_still fs fs' (frame_in ls row (i / 64)) elsewhere (frame_in ls other (j / 64)) (j % 64)
-        (λ e. ne (st.apart other (j / 64) row (i / 64) (place_within (frames_in ls other) j lt) (place_within (frames_in ls row) i within) e).0);
+        (λ e. ne (st.apart other (j / 64) row (i / 64) (place_within (frames_in ls other) j lt) (place_within (frames_in ls row) i within)
+        e).0);
   }
 
 -- the list at one row is replaced
@@ -80,9 +83,18 @@ module _ (fs fs' : Frames) (ls ls' : List (List ℕ)) (st : IsStore fs ls) (row 
 
   in_row : (i : ℕ) → i < frames_in ls' row → (IsOld row i) ⊎ (IsNew row i)
   in_row i lt = elim (cases_lt i (frames_in ls row)) [
-    | inl h ↦ inl (record { below = h; frame = ap (λ (l : List ℕ). get_or l i 0) longer ∙ get_or_append_left (list_at ls row) (f ∷ []) 0 i h })
+    | inl h ↦ inl (record {
+      below = h;
+      frame = ap (λ (l : List ℕ). get_or l i 0) longer
+          ∙ get_or_append_left (list_at ls row) (f ∷ []) 0 i h;
+    })
     | inr h ↦ (let last : i ≡ frames_in ls row = omega (arith, grow_frames) in
-        inr (record { row_is = refl; place = last; frame = ap (λ (l : List ℕ). get_or l i 0) longer ∙ get_or_push (list_at ls row) f 0 i (sym last) }))
+        inr (record {
+          row_is = refl;
+          place = last;
+          frame = ap (λ (l : List ℕ). get_or l i 0) longer
+              ∙ get_or_push (list_at ls row) f 0 i (sym last);
+        }))
   ]
 
   split : (r i : ℕ) → i < frames_in ls' r → (IsOld r i) ⊎ (IsNew r i)
@@ -104,7 +116,8 @@ module _ (fs fs' : Frames) (ls ls' : List (List ℕ)) (st : IsStore fs ls) (row 
 
   grow_taken : (r i : ℕ) → i < frames_in ls' r → IsTaken fs' (frame_in ls' r i)
   grow_taken r i lt = elim (split r i lt) [
-    | inl h ↦ (ap (λ g. is_some (frame_at fs' g)) h.frame ∙ ap (λ (o : Option (List ℕ)). is_some o) (elsewhere (frame_in ls r i) (old_differs r i h.below)) ∙ st.taken r i h.below)
+    | inl h ↦ (ap (λ g. is_some (frame_at fs' g)) h.frame ∙ ap (λ (o : Option (List ℕ)). is_some o)
+        (elsewhere (frame_in ls r i) (old_differs r i h.below)) ∙ st.taken r i h.below)
     | inr h ↦ (ap (λ g. is_some (frame_at fs' g)) h.frame ∙ new_taken)
   ]
 
@@ -124,7 +137,8 @@ module _ (fs fs' : Frames) (ls ls' : List (List ℕ)) (st : IsStore fs ls) (row 
   grow_sum =
       let after = sum_by-set length ls row (list_at ls row ++ f ∷ []) [] within in
       let len = length_push (list_at ls row) f in
-      let whole : sum_by length ls' ≡ sum_by length (set ls row (list_at ls row ++ f ∷ [])) = ap (λ (x : List (List ℕ)). sum_by length x) grown in
+      let whole : sum_by length ls' ≡ sum_by length (set ls row (list_at ls row ++ f ∷ [])) =
+      ap (λ (x : List (List ℕ)). sum_by length x) grown in
       omega (arith, after, len, whole)
 
   pub grow_store : IsStore fs' ls'
@@ -133,18 +147,23 @@ module _ (fs fs' : Frames) (ls ls' : List (List ℕ)) (st : IsStore fs ls) (row 
   pub grow_words : (j : ℕ) → j < 64 * frames_in ls row → word_in fs' ls' row j ≡ word_in fs ls row j
   grow_words j lt =
       let below = place_within (frames_in ls row) j lt in
-      let frame : frame_in ls' row (j / 64) ≡ frame_in ls row (j / 64) = ap (λ (l : List ℕ). get_or l (j / 64) 0) longer ∙ get_or_append_left (list_at ls row) (f ∷ []) 0 (j / 64) below in
-      ap (λ g. word_at fs' g (j % 64)) frame ∙ word_still fs fs' f elsewhere (frame_in ls row (j / 64)) (j % 64) (old_differs row (j / 64) below)
+      let frame : frame_in ls' row (j / 64) ≡ frame_in ls row (j / 64) = ap (λ (l : List ℕ). get_or l (j / 64) 0) longer
+      ∙ get_or_append_left (list_at ls row) (f ∷ []) 0 (j / 64) below in
+      ap (λ g. word_at fs' g (j % 64)) frame ∙ word_still fs fs' f elsewhere (frame_in ls row (j / 64)) (j % 64)
+      (old_differs row (j / 64) below)
 
   pub grow_zeros : (j : ℕ) → 64 * frames_in ls row ≤ j → j < 64 * frames_in ls' row → word_in fs' ls' row j ≡ 0
   grow_zeros j le lt =
       let last : j / 64 ≡ frames_in ls row = omega (arith, grow_frames) in
-      let frame : frame_in ls' row (j / 64) ≡ f = ap (λ (l : List ℕ). get_or l (j / 64) 0) longer ∙ get_or_push (list_at ls row) f 0 (j / 64) (sym last) in
+      let frame : frame_in ls' row (j / 64) ≡ f = ap (λ (l : List ℕ). get_or l (j / 64) 0) longer
+      ∙ get_or_push (list_at ls row) f 0 (j / 64) (sym last) in
       let small : j % 64 < 64 = omega arith in
-      ap (λ g. word_at fs' g (j % 64)) frame ∙ ap (λ (o : Option (List ℕ)). get_or (unwrap_or o []) (j % 64) 0) here ∙ get_or-replicate 64 (j % 64) 0 0 small
+      ap (λ g. word_at fs' g (j % 64)) frame ∙ ap (λ (o : Option (List ℕ)). get_or (unwrap_or o []) (j % 64) 0) here
+      ∙ get_or-replicate 64 (j % 64) 0 0 small
 
 -- the last frame is taken away
-module _ (fs fs' : Frames) (ls ls' : List (List ℕ)) (st : IsStore fs ls) (row f : ℕ) (within : row < length ls) (some : 0 < frames_in ls row)
+module _ (fs fs' : Frames) (ls ls' : List (List ℕ)) (st : IsStore fs ls) (row f : ℕ) (within : row < length ls)
+    (some : 0 < frames_in ls row)
     (cut : ls' ≡ set ls row (take (frames_in ls row - 1) (list_at ls row)))
     (last : f ≡ frame_in ls row (frames_in ls row - 1))
     (elsewhere : (g : ℕ) → g ≢ f → frame_at fs' g ≡ frame_at fs g)
@@ -153,7 +172,8 @@ module _ (fs fs' : Frames) (ls ls' : List (List ℕ)) (st : IsStore fs ls) (row 
   shorter = ap (λ (x : List (List ℕ)). list_at x row) cut ∙ list_here ls row (take (frames_in ls row - 1) (list_at ls row)) within
 
   kept_list : (other : ℕ) → other ≢ row → list_at ls' other ≡ list_at ls other
-  kept_list other ne = ap (λ (x : List (List ℕ)). list_at x other) cut ∙ list_other ls row (take (frames_in ls row - 1) (list_at ls row)) within other ne
+  kept_list other ne = ap (λ (x : List (List ℕ)). list_at x other) cut
+      ∙ list_other ls row (take (frames_in ls row - 1) (list_at ls row)) within other ne
 
   pub shrink_frames : frames_in ls' row + 1 ≡ frames_in ls row
   shrink_frames =
@@ -172,8 +192,10 @@ module _ (fs fs' : Frames) (ls ls' : List (List ℕ)) (st : IsStore fs ls) (row 
   kept_in_row : (i : ℕ) → i < frames_in ls' row → IsKept row i
   kept_in_row i lt = record {
     below = omega (arith, shrink_frames);
-    frame = ap (λ (l : List ℕ). get_or l i 0) shorter ∙ get_or-take (frames_in ls row - 1) (list_at ls row) i 0 (omega (arith, shrink_frames));
-    differs = λ e. (let place : i ≡ frames_in ls row - 1 = (st.apart row i row (frames_in ls row - 1) (omega (arith, shrink_frames)) last_below (e ∙ last)).1 in absurd (omega (arith, shrink_frames, place)));
+    frame = ap (λ (l : List ℕ). get_or l i 0) shorter ∙ get_or-take (frames_in ls row - 1) (list_at ls row) i 0
+        (omega (arith, shrink_frames));
+    differs = λ e. (let place : i ≡ frames_in ls row - 1 = (st.apart row i row (frames_in ls row - 1) (omega (arith, shrink_frames))
+        last_below (e ∙ last)).1 in absurd (omega (arith, shrink_frames, place)));
   }
 
   kept : (r i : ℕ) → i < frames_in ls' r → IsKept r i
@@ -195,7 +217,8 @@ module _ (fs fs' : Frames) (ls ls' : List (List ℕ)) (st : IsStore fs ls) (row 
   shrink_taken : (r i : ℕ) → i < frames_in ls' r → IsTaken fs' (frame_in ls' r i)
   shrink_taken r i lt =
       let h = kept r i lt in
-      ap (λ g. is_some (frame_at fs' g)) h.frame ∙ ap (λ (o : Option (List ℕ)). is_some o) (elsewhere (frame_in ls r i) h.differs) ∙ st.taken r i h.below
+      ap (λ g. is_some (frame_at fs' g)) h.frame ∙ ap (λ (o : Option (List ℕ)). is_some o) (elsewhere (frame_in ls r i) h.differs)
+      ∙ st.taken r i h.below
 
   shrink_apart : (r i q j : ℕ) → i < frames_in ls' r → j < frames_in ls' q → frame_in ls' r i ≡ frame_in ls' q j → (r ≡ q) × (i ≡ j)
   shrink_apart r i q j lt lt' e =
@@ -206,11 +229,17 @@ module _ (fs fs' : Frames) (ls ls' : List (List ℕ)) (st : IsStore fs ls) (row 
   shrink_sum =
       let after = sum_by-set length ls row (take (frames_in ls row - 1) (list_at ls row)) [] within in
       let len = length-take (frames_in ls row - 1) (list_at ls row) in
-      let whole : sum_by length ls' ≡ sum_by length (set ls row (take (frames_in ls row - 1) (list_at ls row))) = ap (λ (x : List (List ℕ)). sum_by length x) cut in
+      let whole : sum_by length ls' ≡ sum_by length (set ls row (take (frames_in ls row - 1) (list_at ls row))) =
+      ap (λ (x : List (List ℕ)). sum_by length x) cut in
       omega (arith, after, len, whole)
 
   pub shrink_store : IsStore fs' ls'
-  shrink_store = record { taken = shrink_taken; apart = shrink_apart; counted = (let c = st.counted in omega (arith, shrink_sum, more, total)) }
+  shrink_store = record {
+    taken = shrink_taken;
+    apart = shrink_apart;
+    counted =
+        (let c = st.counted in omega (arith, shrink_sum, more, total));
+  }
 
   pub shrink_words : (j : ℕ) → j < 64 * frames_in ls' row → word_in fs' ls' row j ≡ word_in fs ls row j
   shrink_words j lt =

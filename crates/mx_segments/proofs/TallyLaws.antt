@@ -1,5 +1,6 @@
 -- A tally with one span more.
-use Rattle.std.proofs.Common.{◌≡◌, ℕ, ◌+◌, ◌-◌, ◌<◌, ◌≤◌, min, true, false, cond, not, ◌==◌, ◌&&◌, ◌||◌, nat_lt, List, length, refl, sym, ◌∙◌, ap, arith, inl, inr}
+use Rattle.std.proofs.Common.{◌≡◌, ℕ, ◌+◌, ◌-◌, ◌<◌, ◌≤◌, min, true, false, cond, not, ◌==◌, ◌&&◌, ◌||◌, nat_lt, List, length, refl, sym}
+use Rattle.std.proofs.Common.{◌∙◌, ap, arith, inl, inr}
 use Rattle.std.proofs.lemmas.Bool.{cases_lt, cases_eq}
 use Rattle.std.proofs.lemmas.Bool.Decides.{nat_tests}
 use Rattle.mx_words.specs.declared.perm.Perm.{Perm}
@@ -61,7 +62,8 @@ module _ (words : ℕ) (m : List Perm) (len : length m ≡ words) (tally : Tally
     | inr ne ↦ ap (λ p. (first == 0) || not (same p perm)) (previous_is (omega arith))
   ]
 
-  module _ (plan : Plan) (at_before : plan.before ≡ counted_before tally first) (at_behind : plan.behind ≡ tally.runs) (at_all : plan.all ≡ tally.runs)
+  module _ (plan : Plan) (at_before : plan.before ≡ counted_before tally first) (at_behind : plan.behind ≡ tally.runs)
+      (at_all : plan.all ≡ tally.runs)
       (at_starts : plan.starts ≡ ((first == 0) || not (same (perm_before tally first) perm)))
       (at_ends : plan.ends ≡ (nat_lt (first + count) words && not (same perm P.None))) (at_next : plan.next ≡ P.None) where
     planned : IsPlan m first count perm plan
@@ -80,7 +82,8 @@ module _ (words : ℕ) (m : List Perm) (len : length m ≡ words) (tally : Tally
           ∙ ap (λ p. nat_lt (first + count) (length m) && not (same perm p)) (sym at_next);
     }
 
-    pub tally_more : (tally' : Tally) → tally'.end ≡ first + count → tally'.before ≡ plan.before + bit plan.starts → tally'.runs ≡ kept plan → tally'.last ≡ perm →
+    pub tally_more : (tally' : Tally) → tally'.end ≡ first + count → tally'.before ≡ plan.before + bit plan.starts → tally'.runs ≡ kept plan
+        → tally'.last ≡ perm →
         IsTally words (laid (grant_of first count perm) m) tally'
     tally_more tally' end_is before_is' runs_is last_is =
         let new = laid (grant_of first count perm) m in
@@ -90,12 +93,14 @@ module _ (words : ℕ) (m : List Perm) (len : length m ≡ words) (tally : Tally
         runs-count new ∙ ap (λ x. count_below x (is_start new)) (length-new words m len first count perm some inside) in
         record {
           within = omega (arith, end_is);
-          tail = λ j from. new_behind words m len first count perm some inside j (omega (arith, end_is)) ∙ is.tail j (omega (arith, end_is));
+          tail = λ j from. new_behind words m len first count perm some inside j (omega (arith, end_is))
+              ∙ is.tail j (omega (arith, end_is));
           before = before_is' ∙ sym range ∙ ap (λ x. count_below x (is_start new)) (sym end_is);
           all = omega (arith, runs_is, whole, at_all, at_behind);
           few = omega (arith, before_is', runs_is);
           most = omega (arith, runs_is, whole, at_all, at_behind, count_new, count_below-le words (is_start new));
-          last = λ pos. last_is ∙ sym (new_in words m len first count perm some inside (tally'.end - 1) (omega (arith, end_is)) (omega (arith, end_is)));
+          last = λ pos. last_is ∙ sym (new_in words m len first count perm some inside (tally'.end - 1) (omega (arith, end_is))
+              (omega (arith, end_is)));
         }
 
 -- no span yet
@@ -111,7 +116,8 @@ module _ (words : ℕ) (row : List Span) (is : IsRow words row) (pos : 1 ≤ wor
   pub one_run : runs (first_spans words row 0) ≡ 1
   one_run =
       let m = first_spans words row 0 in
-      let whole : runs m ≡ count_below words (is_start m) = runs-count m ∙ ap (λ x. count_below x (is_start m)) (length-first words row is 0) in
+      let whole : runs m ≡ count_below words (is_start m) = runs-count m
+      ∙ ap (λ x. count_below x (is_start m)) (length-first words row is 0) in
       let still = count_below_still 1 words (is_start m) pos (λ i from below. none_started i (omega arith)) in
       let one : count_below (0 + 1) (is_start m) ≡ count_below 0 (is_start m) + 1 = count_below_yes 0 (is_start m) refl in
       omega (arith, whole, still, one, count_below-zero (is_start m))
@@ -120,7 +126,8 @@ module _ (words : ℕ) (row : List Span) (is : IsRow words row) (pos : 1 ≤ wor
   first_tally tally end_is before_is runs_is = record {
     within = omega (arith, end_is);
     tail = λ j from. none_yet j;
-    before = before_is ∙ sym (count_below-zero (is_start (first_spans words row 0))) ∙ ap (λ x. count_below x (is_start (first_spans words row 0))) (sym end_is);
+    before = before_is ∙ sym (count_below-zero (is_start (first_spans words row 0)))
+        ∙ ap (λ x. count_below x (is_start (first_spans words row 0))) (sym end_is);
     all = runs_is ∙ sym one_run;
     few = omega (arith, before_is);
     most = omega (arith, runs_is);

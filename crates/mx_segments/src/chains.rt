@@ -1,5 +1,6 @@
 //! Lists of frame numbers, one for each domain.
-ghost use Rattle.std.specs.Prelude.{◌≡◌, ◌+◌, ◌-◌, ◌<◌, ◌≤◌, [], ◌∷◌, ◌++◌, length, take, replicate, slice_index, slice_set, vec_len, vec_capacity, IfOk};
+ghost use Rattle.std.specs.Prelude.{◌≡◌, ◌+◌, ◌-◌, ◌<◌, ◌≤◌, [], ◌∷◌, ◌++◌, length, take, replicate, slice_index};
+ghost use Rattle.std.specs.Prelude.{slice_set, vec_len, vec_capacity, IfOk};
 ghost use Rattle.mx_words.specs.Limits.{most_modules};
 ghost use Rattle.mx_segments.specs.Lists.{list_at, chain_of, longest_list};
 

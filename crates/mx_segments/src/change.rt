@@ -44,7 +44,8 @@ fn shift(leaf: &mut Pool<64>, chains: &Chains, row: u32, plan: &Plan)
     }
 }
 
-// Lays a permission over the words `first` to `first + count - 1` of the map at a row by its entries, and no other map changes. The list
+// Lays a permission over the words `first` to `first + count - 1` of the map at a row by its entries, and no other map
+// changes. The list
 // gets at most one frame more, and afterwards has just as many as the entries fill.
 fn rewrite_row(
     leaf: &mut Pool<64>,
@@ -89,7 +90,8 @@ fn rewrite_row(
     trim(leaf, chains, row, total.div_ceil(64));
 }
 
-/// Lays a permission over the words `first` to `first + count - 1` of the map at a row, and no other map changes. The list gets at
+/// Lays a permission over the words `first` to `first + count - 1` of the map at a row, and no other map changes. The
+/// list gets at
 /// most one frame more, and afterwards has just as many as the entries fill.
 pub(crate) fn change_row(
     leaf: &mut Pool<64>,

@@ -132,7 +132,8 @@ pub(crate) fn run_in(leaf: &Pool<64>, chains: &Chains, row: u32, words: u32, at:
     }
 }
 
-/// Whether the words `first` to `first + count - 1` of the map at a row have a permission already: they lie in one run then.
+/// Whether the words `first` to `first + count - 1` of the map at a row have a permission already: they lie in one run
+/// then.
 pub(crate) fn has_already(
     leaf: &Pool<64>,
     chains: &Chains,

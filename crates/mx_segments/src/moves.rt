@@ -14,7 +14,8 @@ use mx_words::{Perm, RAM_BASE};
 /// The number of words in a frame.
 const FRAME_WORDS: u32 = 64;
 
-// Copies `count` words from place `from` on to place `to` on. Those that are read lie in one frame, and so do those that are written.
+// Copies `count` words from place `from` on to place `to` on. Those that are read lie in one frame, and so do those
+// that are written.
 fn copy_piece(leaf: &mut Pool<64>, chains: &Chains, row: u32, from: u32, to: u32, count: u32)
     requires store { IsStore leaf.old chains.now.lists }
     requires row { row < length chains.now.lists }
@@ -33,7 +34,8 @@ fn copy_piece(leaf: &mut Pool<64>, chains: &Chains, row: u32, from: u32, to: u32
     leaf.copy(source, from % FRAME_WORDS, target, to % FRAME_WORDS, count);
 }
 
-// The first of the last words before place `end`, from place `from` on, that lie in one frame and still do `by` places higher.
+// The first of the last words before place `end`, from place `from` on, that lie in one frame and still do `by` places
+// higher.
 fn piece_begin(from: u32, end: u32, by: u32) -> u32
     requires some { from < end }
     requires most { end + by ≤ most_words }
@@ -47,7 +49,8 @@ fn piece_begin(from: u32, end: u32, by: u32) -> u32
     from.max(source).max(target.saturating_sub(by))
 }
 
-// The place after the first words from place `begin` on, before place `to`, that lie in one frame and still do `by` places lower.
+// The place after the first words from place `begin` on, before place `to`, that lie in one frame and still do `by`
+// places lower.
 fn piece_end(begin: u32, to: u32, by: u32) -> u32
     requires some { begin < to }
     requires far { by ≤ begin }

@@ -13,10 +13,13 @@ use mx_table::{BuildRefused, Change, PermTables};
 use mx_words::{Need, Perm, Shown, Span, Spans};
 use std::alloc::Global;
 
-/// Permission tables as sorted runs. Each domain has a list of entries, one for each maximal run of its map, in the order of their
-/// addresses, 64 to a frame. Entry `i` of a domain stands in the leaf frame `chains.get(domain, i / 64)` at place `i % 64`.
+/// Permission tables as sorted runs. Each domain has a list of entries, one for each maximal run of its map, in the
+/// order of their
+/// addresses, 64 to a frame. Entry `i` of a domain stands in the leaf frame `chains.get(domain, i / 64)` at place `i %
+/// 64`.
 ///
-/// The pool holds the limit's number of leaf frames and two for each domain; the taken ones are just those that the entries fill.
+/// The pool holds the limit's number of leaf frames and two for each domain; the taken ones are just those that the
+/// entries fill.
 #[derive(Drop)]
 pub struct Segments {
     /// The frames in which the entries stand.
@@ -39,7 +42,8 @@ impl Segments {
     ghost use Rattle.mx_segments.specs.Entries.{entry_of};
     ghost use Rattle.mx_segments.specs.Kept.{maps_in};
 
-    /// The stored entry of run `i` of a domain's map, counted from 0: the address of the run's first word, with the run's permission
+    /// The stored entry of run `i` of a domain's map, counted from 0: the address of the run's first word, with the
+    /// run's permission
     /// in bits 1..0. `None` exactly where the map has no run `i`. Domains count from 1.
     pub fn entry(&self, domain: u32, i: u32) -> Option<u32>
         requires { IsDomain (maps_in self.now.words self.now.leaf self.now.chains.lists) domain }

@@ -12,9 +12,12 @@ use Rattle.mx_model.specs.declared.values.Frame.{Frame}
 use Rattle.mx_model.specs.declared.values.TurnKind.TheVariants as T
 use Rattle.mx_model.specs.Checks.{Look, hears, heard_by, looked, looked_all, is_halted, is_ready}
 use Rattle.mx_model.specs.Reads.{Reads}
-use Rattle.mx_model.specs.Serve.{Served, Service, judged, answers, code, serve, served_by, ended, write_from, written_out, exchange_from, exchanged, alloc_from}
+use Rattle.mx_model.specs.Serve.{Served, Service, judged, answers, code, serve, served_by, ended, write_from, written_out, exchange_from}
+use Rattle.mx_model.specs.Serve.{exchanged, alloc_from}
 use Rattle.mx_model.specs.State.{Core, Hart, Status, Waiting, Halted, no_hart, hart_at, with_hart}
-use Rattle.mx_model.specs.Turn.{Action, Rests, Waits, Serves, Asks, Traps, Bounces, Crosses, Returns, Runs, Writes, Decided, Made, acted, asked, served, done, trapped, given_up, killed, enacted, decide, by_status, heard_first, counted, turned, made}
+use Rattle.mx_model.specs.Turn.{Action, Rests, Waits, Serves, Asks, Traps, Bounces, Crosses, Returns, Runs, Writes, Decided, Made, acted}
+use Rattle.mx_model.specs.Turn.{asked, served, done, trapped, given_up, killed, enacted, decide, by_status, heard_first, counted, turned}
+use Rattle.mx_model.specs.Turn.{made}
 use Rattle.mx_model.proofs.ValidParts.{hearing}
 use Rattle.mx_snapshot.specs.Same.{without_code, bare_hart, bare}
 
@@ -68,27 +71,32 @@ same-judged c e (Some n) s t p q = same-served (answers c (code n)) c e p
 bare-written_out : (r : Reads) (c : Core) (call : Call) → bare_served (written_out r c call) ≡ bare_served (written_out r (bare c) call)
 bare-written_out r c call = search (arith, bare-looked_all, bare-bare, same-judged)
 
-bare-write_from : (r : Reads) (c : Core) (call : Call) (o : Option ℕ) → bare_served (write_from r c call o) ≡ bare_served (write_from r (bare c) call o)
+bare-write_from : (r : Reads) (c : Core) (call : Call) (o : Option ℕ)
+    → bare_served (write_from r c call o) ≡ bare_served (write_from r (bare c) call o)
 bare-write_from r c call (Some n) = same-served (answers c (code n)) c (bare c) (sym (bare-bare c))
 bare-write_from r c call None = bare-written_out r c call
 
 bare-exchanged : (r : Reads) (c : Core) (call : Call) → bare_served (exchanged r c call) ≡ bare_served (exchanged r (bare c) call)
 bare-exchanged r c call = search (arith, call.domain, bare-bare, same-judged)
 
-bare-exchange_from : (r : Reads) (c : Core) (call : Call) (o : Option ℕ) → bare_served (exchange_from r c call o) ≡ bare_served (exchange_from r (bare c) call o)
+bare-exchange_from : (r : Reads) (c : Core) (call : Call) (o : Option ℕ)
+    → bare_served (exchange_from r c call o) ≡ bare_served (exchange_from r (bare c) call o)
 bare-exchange_from r c call (Some n) = same-served (answers c (code n)) c (bare c) (sym (bare-bare c))
 bare-exchange_from r c call None = bare-exchanged r c call
 
 -- a change of a core that reads neither harts nor caches
-bare-alloc_from : (c : Core) (call : Call) (first : ℕ) (o : Option ℕ) → bare_served (alloc_from c call first o) ≡ bare_served (alloc_from (bare c) call first o)
+bare-alloc_from : (c : Core) (call : Call) (first : ℕ) (o : Option ℕ)
+    → bare_served (alloc_from c call first o) ≡ bare_served (alloc_from (bare c) call first o)
 bare-alloc_from c call first (Some n) = ap (λ (x : Core). alloc_from x call first (Some n)) (sym (bare-bare c))
 bare-alloc_from c call first None = ap (λ (x : Core). alloc_from x call first None) (sym (bare-bare c))
 
 -- a call judged over both, whose effect is given by what it makes of a core
-bare-judged : (c : Core) (o : Option ℕ) (s : Served) (t : Served) → bare_served s ≡ bare_served t → bare_served (judged c o s) ≡ bare_served (judged (bare c) o t)
+bare-judged : (c : Core) (o : Option ℕ) (s : Served) (t : Served) → bare_served s ≡ bare_served t
+    → bare_served (judged c o s) ≡ bare_served (judged (bare c) o t)
 bare-judged c o s t p = same-judged c (bare c) o s t (sym (bare-bare c)) p
 
-bare-by : (k : Service) (r : Reads) (c : Core) (call : Call) → bare_served (served_by k r c call) ≡ bare_served (served_by k r (bare c) call)
+bare-by : (k : Service) (r : Reads) (c : Core) (call : Call) → bare_served (served_by k r c call)
+    ≡ bare_served (served_by k r (bare c) call)
 bare-by x r c call =
     grind (arith, bare-judged, bare-bare, bare-write_from, bare-alloc_from, bare-exchange_from, same-served)
 
@@ -103,7 +111,8 @@ bare-serve r c call = grind (arith, bare-ended, bare-by)
 bare-done : (h : ℕ) (hart : Hart) (s : Served) → bare_made (done h hart s) ≡ bare_made (done h hart (bare_served s))
 bare-done h hart s = search (arith, s.stop, bare_made, bare_served, bare-hart)
 
-bare-served : (r : Reads) (c : Core) (h : ℕ) (hart : Hart) (call : Call) → bare_made (served r c h hart call) ≡ bare_made (served r (bare c) h hart call)
+bare-served : (r : Reads) (c : Core) (h : ℕ) (hart : Hart) (call : Call)
+    → bare_made (served r c h hart call) ≡ bare_made (served r (bare c) h hart call)
 bare-served r c h hart call = grind (arith, bare-done, bare_made, bare-serve)
 
 -- whether the others have heard a call
@@ -115,13 +124,15 @@ ready-from : (i h : ℕ) (heard : List Bool) (hs : List Hart) →
     ≡ list_all (λ (p : ℕ × Hart). lets_pass h heard p.0 (is_halted p.1.status)) (enumerate_from i hs)
 ready-from i h heard [] = refl
 ready-from i h heard (x ∷ xs) =
-    ap (λ b. lets_pass h heard i b && list_all (λ (p : ℕ × Hart). lets_pass h heard p.0 (is_halted p.1.status)) (enumerate_from (i + 1) (list_map bare_hart xs))) (halted-bare x.status)
+    ap (λ b. lets_pass h heard i b && list_all (λ (p : ℕ × Hart). lets_pass h heard p.0 (is_halted p.1.status))
+    (enumerate_from (i + 1) (list_map bare_hart xs))) (halted-bare x.status)
     ∙ ap (λ b. lets_pass h heard i (is_halted x.status) && b) (ready-from (i + 1) h heard xs)
 
 ready-bare : (c : Core) (h : ℕ) (heard : List Bool) → is_ready (bare c) h heard ≡ is_ready c h heard
 ready-bare c h heard = ready-from 0 h heard c.harts
 
-bare-asked : (r : Reads) (c : Core) (h : ℕ) (hart : Hart) (call : Call) (b : Bool) → bare_made (asked r c h hart call b) ≡ bare_made (asked r (bare c) h hart call b)
+bare-asked : (r : Reads) (c : Core) (h : ℕ) (hart : Hart) (call : Call) (b : Bool)
+    → bare_made (asked r c h hart call b) ≡ bare_made (asked r (bare c) h hart call b)
 bare-asked r c h hart call true = bare-served r c h hart call
 bare-asked r c h hart call false = ap (made T.Called) (bare-hart h (record hart { status = Waiting call nobody }) c)
 
@@ -129,15 +140,18 @@ bare-asked r c h hart call false = ap (made T.Called) (bare-hart h (record hart 
 killed-bare : (d cause : ℕ) (c : Core) → bare (killed d cause c) ≡ killed d cause (bare c)
 killed-bare d cause c = search arith
 
-bare-given_up : (c : Core) (h : ℕ) (hart : Hart) (cause : ℕ) (o : Option Frame) → bare (given_up c h hart cause o) ≡ bare (given_up (bare c) h hart cause o)
+bare-given_up : (c : Core) (h : ℕ) (hart : Hart) (cause : ℕ) (o : Option Frame)
+    → bare (given_up c h hart cause o) ≡ bare (given_up (bare c) h hart cause o)
 bare-given_up c h hart cause None = bare-hart h (record hart { status = Halted None }) c
 bare-given_up c h hart cause (Some frame) = bare-hart h _ c
 
-bare-trapped : (c : Core) (h : ℕ) (hart : Hart) (cause value : ℕ) → bare_made (trapped c h hart cause value) ≡ bare_made (trapped (bare c) h hart cause value)
+bare-trapped : (c : Core) (h : ℕ) (hart : Hart) (cause value : ℕ)
+    → bare_made (trapped c h hart cause value) ≡ bare_made (trapped (bare c) h hart cause value)
 bare-trapped c h hart cause value = grind (arith, bare-given_up, hart.domain, killed-bare)
 
 -- an action
-bare-acted : (r : Reads) (c : Core) (h : ℕ) (hart : Hart) (action : Action) → bare_made (acted r c h hart action) ≡ bare_made (acted r (bare c) h hart action)
+bare-acted : (r : Reads) (c : Core) (h : ℕ) (hart : Hart) (action : Action)
+    → bare_made (acted r c h hart action) ≡ bare_made (acted r (bare c) h hart action)
 bare-acted r c h hart Rests = ap (made T.Idle) (sym (bare-bare c))
 bare-acted r c h hart Waits = ap (made T.Waited) (sym (bare-bare c))
 bare-acted r c h hart (Serves call) = bare-served r c h hart call
@@ -147,14 +161,17 @@ bare-acted r c h hart Bounces = ap (made T.Returned) (bare-hart h _ c)
 bare-acted r c h hart (Crosses target) = ap (made T.Crossed) (bare-hart h _ c)
 bare-acted r c h hart (Returns rd frame) = ap (made T.Returned) (bare-hart h _ c)
 bare-acted r c h hart (Runs regs pc) = ap (made T.Ran) (bare-hart h _ c)
-bare-acted r c h hart (Writes address size value) = ap (made T.Ran) (bare-hart h _ (record c { ram = put_at c.ram (address - ram_base) size value }))
+bare-acted r c h hart (Writes address size value) = ap (made T.Ran)
+    (bare-hart h _ (record c { ram = put_at c.ram (address - ram_base) size value }))
 
 -- what is decided
-status-bare : (r : Reads) (c : Core) (h : ℕ) (hart : Hart) (s : Status) → by_status r (bare c) h (bare_hart hart) (without_code s) ≡ by_status r c h hart s
+status-bare : (r : Reads) (c : Core) (h : ℕ) (hart : Hart) (s : Status)
+    → by_status r (bare c) h (bare_hart hart) (without_code s) ≡ by_status r c h hart s
 status-bare r c h hart x = grind (arith, ready-bare)
 
 decide-bare : (r : Reads) (c : Core) (h : ℕ) → decide r (bare c) h ≡ decide r c h
-decide-bare r c h = ap (λ (x : Hart). by_status r (bare c) h x x.status) (hart-bare c h) ∙ status-bare r c h (hart_at c h) (hart_at c h).status
+decide-bare r c h = ap (λ (x : Hart). by_status r (bare c) h x x.status) (hart-bare c h)
+    ∙ status-bare r c h (hart_at c h) (hart_at c h).status
 
 -- an action reads no status of its hart
 acted-hart : (r : Reads) (c : Core) (h : ℕ) (hart : Hart) (action : Action) → acted r c h (bare_hart hart) action ≡ acted r c h hart action
@@ -164,7 +181,8 @@ acted-hart r c h hart x = grind arith
 bare-enacted : (r : Reads) (c : Core) (h : ℕ) (d : Decided) → bare_made (enacted r c h d) ≡ bare_made (enacted r (bare c) h d)
 bare-enacted r c h d =
     bare-acted r (looked_all r h d.looks c) h (hart_at c h) d.action
-    ∙ ap (λ (x : Core). bare_made (acted r x h (hart_at c h) d.action)) (bare-looked_all r h d.looks c ∙ sym (looked_all-bare r h d.looks c))
+    ∙ ap (λ (x : Core). bare_made (acted r x h (hart_at c h) d.action)) (bare-looked_all r h d.looks c
+    ∙ sym (looked_all-bare r h d.looks c))
     ∙ ap bare_made (sym (acted-hart r (looked_all r h d.looks (bare c)) h (hart_at c h) d.action))
     ∙ ap (λ (x : Hart). bare_made (acted r (looked_all r h d.looks (bare c)) h x d.action)) (sym (hart-bare c h))
 

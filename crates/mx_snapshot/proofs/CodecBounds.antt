@@ -1,5 +1,6 @@
 -- Ranges of the fields of a snapshot, and numbers that mean something.
-use Rattle.std.proofs.Common.{◌≡◌, ℕ, zero, suc, ◌+◌, ◌*◌, ◌/◌, ◌%◌, ◌^◌, ◌<◌, ◌≤◌, ◌==◌, Bool, true, false, nat_lt, nat_le, ◌||◌, ◌⊎◌, List, [], ◌∷◌, ◌++◌, length, ap, ◌∙◌, arith, leb-true, le-leb, ltb-true, eqb-true, zero-add, if◌then◌else◌}
+use Rattle.std.proofs.Common.{◌≡◌, ℕ, zero, suc, ◌+◌, ◌*◌, ◌/◌, ◌%◌, ◌^◌, ◌<◌, ◌≤◌, ◌==◌, Bool, true, false, nat_lt, nat_le, ◌||◌, ◌⊎◌}
+use Rattle.std.proofs.Common.{List, [], ◌∷◌, ◌++◌, length, ap, ◌∙◌, arith, leb-true, le-leb, ltb-true, eqb-true, zero-add, if◌then◌else◌}
 use Rattle.std.specs.List.{AllByRecursion}
 use Rattle.std.proofs.lemmas.Bool.{and_from, and_parts}
 use Rattle.std.proofs.lemmas.List.Sums.{sum_by-append}
@@ -9,12 +10,13 @@ use Rattle.mx_words.specs.Counting.{bit}
 use Rattle.mx_words.specs.Ranges.{most_words}
 use Rattle.mx_words.specs.Rights.{number}
 use Rattle.mx_words.specs.Runs.{Run}
+use Rattle.mx_words.specs.Limits.{is_buffer}
 use Rattle.mx_manifest.specs.Forms.{is_within}
 use Rattle.mx_manifest.specs.InRange.{IsBetween}
 use Rattle.mx_machine.specs.declared.views.HartStatus.{HartStatus}
 use Rattle.mx_snapshot.specs.Fields.{kind_by, perm_by, run_by, status_by}
 use Rattle.mx_snapshot.specs.Fits.{EachFits, IsHead}
-use Rattle.mx_snapshot.specs.Rules.{has_place, is_area, is_buffer, is_heard, run_words}
+use Rattle.mx_snapshot.specs.Rules.{has_place, is_area, is_heard, run_words}
 use Rattle.mx_snapshot.specs.Spelling.{kind_number, status_number}
 use Rattle.mx_snapshot.specs.Stored.{Head}
 
@@ -37,12 +39,14 @@ pub small_buffer : (n : ℕ) → is_buffer n ≡ true → n ≤ 64
 small_buffer n e = search (arith, either)
 
 pub small_area : (words first count : ℕ) → is_area words first count ≡ true → first + count ≤ words
-small_area words first count e = leb-true (first + count) words (and_parts (nat_le (first + count) words) (nat_lt 0 count || first == 0) e).0
+small_area words first count e = leb-true (first + count) words
+    (and_parts (nat_le (first + count) words) (nat_lt 0 count || first == 0) e).0
 
 pub each_part : (n m : ℕ) → 1 ≤ m → n ≤ n * m
 each_part n x le = grind arith
 
-pub small_place : {A : Type 0} (words runs : ℕ) (before : List (Run A)) (count : ℕ) → has_place words runs before count ≡ true → (0 < count) × (run_words before + count ≤ words)
+pub small_place : {A : Type 0} (words runs : ℕ) (before : List (Run A)) (count : ℕ) → has_place words runs before count ≡ true
+    → (0 < count) × (run_words before + count ≤ words)
 small_place words runs before count e =
     let p = and_parts (nat_lt 0 count) _ e in
     (ltb-true 0 count p.0, chosen (run_words before + count) (length before + 1 == runs) p.1) where
@@ -50,11 +54,12 @@ small_place words runs before count e =
       chosen end true h = omega (arith, eqb-true end words h)
       chosen end false h = leb-true end words h
 
-run_words_more : {A : Type 0} (before : List (Run A)) (r : Run A) → run_words (before ++ r ∷ []) ≡ run_words before + r.count
+pub run_words_more : {A : Type 0} (before : List (Run A)) (r : Run A) → run_words (before ++ r ∷ []) ≡ run_words before + r.count
 run_words_more before r = sum_by-append (λ x. x.count) before (r ∷ []) ∙ ap (λ (k : ℕ). run_words before + k) (zero-add r.count)
 
 -- there are no more runs than words
-pub few_runs : {A : Type 0} (words : ℕ) (fits : List (Run A) → Run A → Type 0) → ((before : List (Run A)) (r : Run A) → fits before r → (0 < r.count) × (run_words before + r.count ≤ words))
+pub few_runs : {A : Type 0} (words : ℕ) (fits : List (Run A) → Run A → Type 0)
+    → ((before : List (Run A)) (r : Run A) → fits before r → (0 < r.count) × (run_words before + r.count ≤ words))
     → (xs before : List (Run A)) → run_words before ≤ words → EachFits fits before xs → run_words before + length xs ≤ words
 few_runs words fits each [] before le f = omega (arith, le)
 few_runs words fits each (x ∷ xs) before le f =
@@ -125,14 +130,17 @@ pub all_of : {A : Type 0} (P : A → Type 0) (xs before : List A) → EachFits (
 all_of P [] before f = tt
 all_of P (x ∷ xs) before f = (f.0, all_of P xs (before ++ x ∷ []) f.1)
 
-pub each_both : {A : Type 0} (P : List A → A → Type 0) (Q : A → Type 0) (xs before : List A) → EachFits P before xs → AllByRecursion Q xs → EachFits (λ others x. Q x × P others x) before xs
+pub each_both : {A : Type 0} (P : List A → A → Type 0) (Q : A → Type 0) (xs before : List A) → EachFits P before xs → AllByRecursion Q xs
+    → EachFits (λ others x. Q x × P others x) before xs
 each_both P Q [] before f all = tt
 each_both P Q (x ∷ xs) before f all = ((all.0, f.0), each_both P Q xs (before ++ x ∷ []) f.1 all.1)
 
-pub each_left : {A : Type 0} (P : List A → A → Type 0) (Q : A → Type 0) (xs before : List A) → EachFits (λ others x. Q x × P others x) before xs → AllByRecursion Q xs
+pub each_left : {A : Type 0} (P : List A → A → Type 0) (Q : A → Type 0) (xs before : List A)
+    → EachFits (λ others x. Q x × P others x) before xs → AllByRecursion Q xs
 each_left P Q [] before f = tt
 each_left P Q (x ∷ xs) before f = (f.0.0, each_left P Q xs (before ++ x ∷ []) f.1)
 
-pub each_right : {A : Type 0} (P : List A → A → Type 0) (Q : A → Type 0) (xs before : List A) → EachFits (λ others x. Q x × P others x) before xs → EachFits P before xs
+pub each_right : {A : Type 0} (P : List A → A → Type 0) (Q : A → Type 0) (xs before : List A)
+    → EachFits (λ others x. Q x × P others x) before xs → EachFits P before xs
 each_right P Q [] before f = tt
 each_right P Q (x ∷ xs) before f = (f.0.1, each_right P Q xs (before ++ x ∷ []) f.1)

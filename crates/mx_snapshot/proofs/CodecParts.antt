@@ -1,5 +1,6 @@
 -- What is spelled is read: the parts of readers.
-use Rattle.std.proofs.Common.{◌≡◌, ℕ, zero, suc, ◌+◌, ◌/◌, ◌%◌, ◌^◌, ◌<◌, ◌≤◌, Bool, true, nat_le, List, [], ◌∷◌, ◌++◌, length, take, drop, refl, sym, ap, ◌∙◌, subst, arith, append_assoc, length-append, le-leb, if◌then◌else◌}
+use Rattle.std.proofs.Common.{◌≡◌, ℕ, zero, suc, ◌+◌, ◌/◌, ◌%◌, ◌^◌, ◌<◌, ◌≤◌, Bool, true, nat_le, List, [], ◌∷◌, ◌++◌, length, take, drop}
+use Rattle.std.proofs.Common.{refl, sym, ap, ◌∙◌, subst, arith, append_assoc, length-append, le-leb, if◌then◌else◌}
 use Rattle.std.specs.Prelude.{flat_map}
 use Rattle.std.proofs.lemmas.List.{append-nil, take_at, drop_at}
 use Rattle.mx_words.specs.Bytes.{number_at}
@@ -15,7 +16,8 @@ pub record Reads {A : Type 0} (reader : Reader A) (spelled : List ℕ) (a : A) :
 pub reads_done : {A : Type 0} (a : A) → Reads (done a) [] a
 reads_done a = record { at = λ front rest. ap (λ (bs : List ℕ). Took a (length bs)) (sym (append-nil front)) }
 
-pub reads_next : {A B : Type 0} {reader : Reader A} (next : A → Reader B) {u s t : List ℕ} {a : A} {b : B} → Reads reader s a → u ≡ s ++ t → Reads (next a) t b → Reads (reader >>= next) u b
+pub reads_next : {A B : Type 0} {reader : Reader A} (next : A → Reader B) {u s t : List ℕ} {a : A} {b : B} → Reads reader s a → u ≡ s ++ t
+    → Reads (next a) t b → Reads (reader >>= next) u b
 reads_next {reader = reader} next {u = u} {s = s} {t = t} {a = a} {b = b} r e n = record {
   at = λ front rest.
       ap (λ (bs : List ℕ). (reader >>= next) (front ++ (bs ++ rest)) (length front)) e
@@ -27,14 +29,16 @@ reads_next {reader = reader} next {u = u} {s = s} {t = t} {a = a} {b = b} r e n 
       ∙ ap (λ (bs : List ℕ). Took b (length (front ++ bs))) (sym e);
 }
 
-pub reads_such : {A : Type 0} (fault : ℕ) (test : A → Bool) {reader : Reader A} {s : List ℕ} {a : A} → Reads reader s a → test a ≡ true → Reads (such_or fault test reader) s a
+pub reads_such : {A : Type 0} (fault : ℕ) (test : A → Bool) {reader : Reader A} {s : List ℕ} {a : A} → Reads reader s a → test a ≡ true
+    → Reads (such_or fault test reader) s a
 reads_such fault test {s = s} {a = a} r e = record {
   at = λ front rest.
       ap (tested fault test (length front)) (r.at front rest)
       ∙ ap (λ (c : Bool). if c then Took a (length (front ++ s)) else Fails (length front) fault) e;
 }
 
-pub reads_meant : {A B : Type 0} (f : A → B) {reader : Reader A} {s : List ℕ} {a : A} {b : B} → Reads reader s a → f a ≡ b → Reads (meant f reader) s b
+pub reads_meant : {A B : Type 0} (f : A → B) {reader : Reader A} {s : List ℕ} {a : A} {b : B} → Reads reader s a → f a ≡ b
+    → Reads (meant f reader) s b
 reads_meant f {s = s} {a = a} r e = record {
   at = λ front rest.
       ap (goes_on (λ x. done (f x)) (front ++ (s ++ rest))) (r.at front rest)
@@ -47,7 +51,8 @@ within front part rest size e = le-leb _ _ (omega (arith, length-append front (p
 pub reads_piece : (s : List ℕ) (size : ℕ) → length s ≡ size → Reads (piece size) s s
 reads_piece s size e = record {
   at = λ front rest.
-      ap (λ (c : Bool). if c then Took (take size (drop (length front) (front ++ (s ++ rest)))) (length front + size) else Fails (length front) 2) (within front s rest size e)
+      ap (λ (c : Bool). if c then Took (take size (drop (length front) (front ++ (s ++ rest)))) (length front + size) else Fails
+      (length front) 2) (within front s rest size e)
       ∙ ap (λ (bs : List ℕ). Took (take size bs) (length front + size)) (drop_at front (s ++ rest) (length front) refl)
       ∙ ap (λ (bs : List ℕ). Took bs (length front + size)) (take_at s rest size e)
       ∙ ap (Took s) (ap (λ (k : ℕ). length front + k) (sym e) ∙ sym (length-append front s));
@@ -75,8 +80,10 @@ reads_number size n h = record {
   at = λ front rest.
       let s = little_endian size n in
       let here : number_at (front ++ (s ++ rest)) (length front) size ≡ n =
-      ap (λ (k : ℕ). number_at (front ++ (s ++ rest)) k size) (omega arith) ∙ number-behind front (s ++ rest) 0 size ∙ number-front size n rest h in
-      ap (λ (c : Bool). if c then Took (number_at (front ++ (s ++ rest)) (length front) size) (length front + size) else Fails (length front) 2) (within front s rest size (spelled-length size n))
+      ap (λ (k : ℕ). number_at (front ++ (s ++ rest)) k size) (omega arith) ∙ number-behind front (s ++ rest) 0 size
+      ∙ number-front size n rest h in
+      ap (λ (c : Bool). if c then Took (number_at (front ++ (s ++ rest)) (length front) size) (length front + size) else Fails
+      (length front) 2) (within front s rest size (spelled-length size n))
       ∙ ap (λ (k : ℕ). Took k (length front + size)) here
       ∙ ap (Took n) (ap (λ (k : ℕ). length front + k) (sym (spelled-length size n)) ∙ sym (length-append front s));
 }
@@ -88,13 +95,16 @@ pub reads_eight : (n : ℕ) → n ≤ 9223372036854775807 → Reads (number_of 8
 reads_eight n le = reads_number 8 n (omega arith)
 
 -- each item of a list, by those before it
-pub reads_each : {A : Type 0} (spell : A → List ℕ) (fits : List A → A → Type 0) (item : List A → Reader A) → ((before : List A) (x : A) → fits before x → Reads (item before) (spell x) x)
+pub reads_each : {A : Type 0} (spell : A → List ℕ) (fits : List A → A → Type 0) (item : List A → Reader A)
+    → ((before : List A) (x : A) → fits before x → Reads (item before) (spell x) x)
     → (xs before : List A) → EachFits fits before xs → Reads (list_of (length xs) item before) (flat_map spell xs) (before ++ xs)
 reads_each spell fits item each [] before f = subst (Reads (done before) []) (sym (append-nil before)) (reads_done before)
 reads_each spell fits item each (x ∷ xs) before f =
     subst (Reads (list_of (length (x ∷ xs)) item before) (flat_map spell (x ∷ xs))) (append_assoc before (x ∷ []) xs)
     (reads_next _ (each before x f.0) refl (reads_each spell fits item each xs (before ++ x ∷ []) f.1))
 
-pub reads_list : {A : Type 0} (spell : A → List ℕ) (fits : List A → A → Type 0) (item : List A → Reader A) → ((before : List A) (x : A) → fits before x → Reads (item before) (spell x) x)
+pub reads_list : {A : Type 0} (spell : A → List ℕ) (fits : List A → A → Type 0) (item : List A → Reader A)
+    → ((before : List A) (x : A) → fits before x → Reads (item before) (spell x) x)
     → (xs : List A) (n : ℕ) → length xs ≡ n → EachFits fits [] xs → Reads (list_of n item []) (flat_map spell xs) xs
-reads_list spell fits item each xs n e f = subst (λ (k : ℕ). Reads (list_of k item []) (flat_map spell xs) xs) e (reads_each spell fits item each xs [] f)
+reads_list spell fits item each xs n e f = subst (λ (k : ℕ). Reads (list_of k item []) (flat_map spell xs) xs) e
+    (reads_each spell fits item each xs [] f)

@@ -24,19 +24,24 @@ use Rattle.mx_snapshot.specs.Same.{AreSame, bare_hart, without_code}
 use Rattle.mx_snapshot.specs.Stored.{StoredHart, StoredModule, heard_of, named_module, perm_runs_of, stored_hart, stored_of}
 
 -- the status of a hart, but for an exit code
-status-back : (harts h : ℕ) (x : Hart) (y : StoredHart) (status : Status) → y.heard ≡ heard_of status → call_of h (running y) ≡ call_of h x → IsStatus harts h x status →
+status-back : (harts h : ℕ) (x : Hart) (y : StoredHart) (status : Status) → y.heard ≡ heard_of status → call_of h (running y) ≡ call_of h x
+    → IsStatus harts h x status →
     without_code (status_in h y (status_told status)) ≡ without_code status
 status-back harts h x y x1 heard call is = grind (arith, four-bits)
 
 hart-back : (harts h : ℕ) (x : Hart) → IsStatus harts h x x.status → bare_hart (hart_in_state (h, stored_hart x)) ≡ bare_hart x
-hart-back harts h x is = ap (λ (status : Status). record x { status = status }) (status-back harts h x (stored_hart x) x.status refl refl is)
+hart-back harts h x is = ap (λ (status : Status). record x { status = status })
+    (status-back harts h x (stored_hart x) x.status refl refl is)
 
-harts-back : (harts n : ℕ) (xs : List Hart) → ((i j : ℕ) → n + i ≡ j → i < length xs → IsStatus harts j (get_or xs i no_hart) (get_or xs i no_hart).status) →
+harts-back : (harts n : ℕ) (xs : List Hart) → ((i j : ℕ) → n + i ≡ j → i < length xs
+    → IsStatus harts j (get_or xs i no_hart) (get_or xs i no_hart).status) →
     list_map bare_hart (list_map hart_in_state (enumerate_from n (list_map stored_hart xs))) ≡ list_map bare_hart xs
 harts-back harts n [] each = refl
 harts-back harts n (x ∷ xs) each =
-    ap (λ (y : Hart). y ∷ list_map bare_hart (list_map hart_in_state (enumerate_from (n + 1) (list_map stored_hart xs)))) (hart-back harts n x (each 0 n (omega arith) (omega arith)))
-    ∙ ap (λ (ys : List Hart). bare_hart x ∷ ys) (harts-back harts (n + 1) xs (λ i j e lt. each (suc i) j (omega (arith, e)) (omega (arith, lt))))
+    ap (λ (y : Hart). y ∷ list_map bare_hart (list_map hart_in_state (enumerate_from (n + 1) (list_map stored_hart xs))))
+    (hart-back harts n x (each 0 n (omega arith) (omega arith)))
+    ∙ ap (λ (ys : List Hart). bare_hart x ∷ ys) (harts-back harts (n + 1) xs (λ i j e lt.
+    each (suc i) j (omega (arith, e)) (omega (arith, lt))))
 
 module _ (kept : KeptPlan) (f : Flat) (valid : IsFlat f) where
   abbrev core : Core
@@ -77,7 +82,8 @@ module _ (kept : KeptPlan) (f : Flat) (valid : IsFlat f) where
   map-back i lt =
       let back : 1 + i - 1 ≡ i = omega arith in
       let m = get_or f.maps i [] in
-      let here : map_in core.size f.maps (1 + i) ≡ m = ap (λ (k : ℕ). get_or f.maps k (map [] core.size)) back ∙ get_or_default f.maps i (map [] core.size) [] lt in
+      let here : map_in core.size f.maps (1 + i) ≡ m = ap (λ (k : ℕ). get_or f.maps k (map [] core.size)) back
+      ∙ get_or_default f.maps i (map [] core.size) [] lt in
       ap (λ (x : List Perm). map (laid_runs 0 (runs_of same x)) core.size) here
       ∙ laid-again same P.None m core.size perm-equality (all-in (λ (x : List Perm). length x ≡ core.size) f.maps [] valid.whole_maps i lt)
 
@@ -85,20 +91,23 @@ module _ (kept : KeptPlan) (f : Flat) (valid : IsFlat f) where
   maps-back =
       let many = length-ms in
       let long : length laid ≡ count = length-map ms (λ (m : StoredModule). laid_runs 0 m.map) ∙ many in
-      let all : length (list_map (λ (g : List Grant). map g core.size) laid) ≡ count = length-map laid (λ (g : List Grant). map g core.size) ∙ long in
+      let all : length (list_map (λ (g : List Grant). map g core.size) laid) ≡ count = length-map laid (λ (g : List Grant). map g core.size)
+      ∙ long in
       let maps = valid.maps in
       ext_get_or [] (list_map (λ (g : List Grant). map g core.size) laid) f.maps (all ∙ sym maps)
       (λ i lt.
       let within : i < count = omega (arith, lt, all) in
       get_or-map (λ (g : List Grant). map g core.size) laid i [] [] (omega (arith, within, long))
-      ∙ ap (λ (g : List Grant). map g core.size) (get_or-map (λ (m : StoredModule). laid_runs 0 m.map) ms i no_stored_module [] (omega (arith, within, many))
+      ∙ ap (λ (g : List Grant). map g core.size) (get_or-map (λ (m : StoredModule). laid_runs 0 m.map) ms i no_stored_module []
+      (omega (arith, within, many))
       ∙ ap (λ (m : StoredModule). laid_runs 0 m.map) (at-place i within))
       ∙ map-back i (omega (arith, within, maps)))
 
   owners-back : owners (laid_runs 0 (runs_of (λ (a b : ℕ). a == b) f.owners)) core.size ≡ f.owners
   owners-back = laid-again (λ (a b : ℕ). a == b) 0 f.owners core.size nat-equality valid.owners
 
-  harts-are : list_map bare_hart (list_map hart_in_state (enumerate_from 0 (list_map stored_hart core.harts))) ≡ list_map bare_hart core.harts
+  harts-are : list_map bare_hart (list_map hart_in_state (enumerate_from 0 (list_map stored_hart core.harts)))
+      ≡ list_map bare_hart core.harts
   harts-are = harts-back (length core.harts) 0 core.harts (search (arith, core.harts, valid.valid.harts))
 
   abbrev bare_with : List Module → List Hart → List (List Perm) → List ℕ → Flat
@@ -116,7 +125,8 @@ pub given-back : (kept : KeptPlan) (f : Flat) → IsFlat f → AreSame (flat (st
 given-back kept f valid = state-back kept f valid
 
 -- the plan
-names-back : (kept : KeptPlan) (f : Flat) → length f.core.modules ≡ length kept.names → list_map (λ (m : StoredModule). m.name) (list_map (named_module kept.names f) (range_with_len 1 (length f.core.modules))) ≡ kept.names
+names-back : (kept : KeptPlan) (f : Flat) → length f.core.modules ≡ length kept.names
+    → list_map (λ (m : StoredModule). m.name) (list_map (named_module kept.names f) (range_with_len 1 (length f.core.modules))) ≡ kept.names
 names-back kept f e =
     let one = named_module kept.names f in
     let ms = list_map one (range_with_len 1 (length f.core.modules)) in

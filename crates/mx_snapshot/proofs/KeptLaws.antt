@@ -36,10 +36,13 @@ kept_in_range plan r = record {
 }
 
 -- a list of names that grows by the name of one more module
-pub names_more : (ms : List ModulePlan) (i : ℕ) (m : ModulePlan) (xs ys : List (List ℕ)) (name : List ℕ) → slice_get ms i ≡ Some m → xs ≡ names_of (take i ms)
+pub names_more : (ms : List ModulePlan) (i : ℕ) (m : ModulePlan) (xs ys : List (List ℕ)) (name : List ℕ) → slice_get ms i ≡ Some m
+    → xs ≡ names_of (take i ms)
     → name ≡ m.name → ys ≡ xs ++ name ∷ [] → ys ≡ names_of (take (i + 1) ms)
 names_more ms i m xs ys name at so_far same push =
     let within = slice_get_within ms i m at in
-    let more : take (i + 1) ms ≡ take i ms ++ m ∷ [] = take_more ms i m within ∙ ap (λ (y : ModulePlan). take i ms ++ y ∷ []) (get_or_from_slice_get ms i m m at) in
-    push ∙ ap (λ zs. zs ++ name ∷ []) so_far ∙ ap (λ z. names_of (take i ms) ++ z ∷ []) same ∙ sym (map-append (λ (m : ModulePlan). m.name) (take i ms) (m ∷ []))
+    let more : take (i + 1) ms ≡ take i ms ++ m ∷ [] = take_more ms i m within
+    ∙ ap (λ (y : ModulePlan). take i ms ++ y ∷ []) (get_or_from_slice_get ms i m m at) in
+    push ∙ ap (λ zs. zs ++ name ∷ []) so_far ∙ ap (λ z. names_of (take i ms) ++ z ∷ []) same
+    ∙ sym (map-append (λ (m : ModulePlan). m.name) (take i ms) (m ∷ []))
     ∙ ap names_of (sym more)

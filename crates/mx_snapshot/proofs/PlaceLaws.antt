@@ -1,5 +1,6 @@
 -- What is read of a machine: lists place by place, and how a hart stands.
-use Rattle.std.proofs.Common.{◌≡◌, ℕ, zero, suc, ◌+◌, ◌-◌, ◌<◌, ◌≤◌, true, false, List, [], ◌∷◌, length, get_or, sym, ap, ◌∙◌, arith, Option, Some, None}
+use Rattle.std.proofs.Common.{◌≡◌, ℕ, zero, suc, ◌+◌, ◌-◌, ◌<◌, ◌≤◌, true, false, List, [], ◌∷◌, length, get_or, sym, ap, ◌∙◌, arith}
+use Rattle.std.proofs.Common.{Option, Some, None}
 use Rattle.std.proofs.lemmas.Option.{get_or_from_slice_get, slice_get_within}
 use Rattle.mx_model.specs.State.{Hart}
 use Rattle.mx_machine.specs.declared.views.HartView.{HartView}
@@ -20,11 +21,13 @@ none_at (x ∷ xs) zero none = absurd (let q : ⊥ = cc in q)
 none_at (x ∷ xs) (suc i) none = let r = none_at xs i none in omega (arith, r)
 
 -- whether there is an item at place i, by whether it is told
-pub some_within : {A B : Type 0} (f : A → B) (o : Option A) (xs : List B) (i : ℕ) → option_map f o ≡ slice_get xs i → is_some o ≡ true → i < length xs
+pub some_within : {A B : Type 0} (f : A → B) (o : Option A) (xs : List B) (i : ℕ) → option_map f o ≡ slice_get xs i → is_some o ≡ true
+    → i < length xs
 some_within f None xs i told is = absurd (let q : ⊥ = cc in q)
 some_within f (Some a) xs i told is = slice_get_within xs i (f a) (sym told)
 
-pub some_behind : {A B : Type 0} (f : A → B) (o : Option A) (xs : List B) (i : ℕ) → option_map f o ≡ slice_get xs i → is_some o ≡ false → length xs ≤ i
+pub some_behind : {A B : Type 0} (f : A → B) (o : Option A) (xs : List B) (i : ℕ) → option_map f o ≡ slice_get xs i → is_some o ≡ false
+    → length xs ≤ i
 some_behind f None xs i told is = none_at xs i (sym told)
 some_behind f (Some a) xs i told is = absurd (let q : ⊥ = cc in q)
 
@@ -38,5 +41,6 @@ is_behind None xs i told is = none_at xs i (sym told)
 is_behind (Some a) xs i told is = absurd (let q : ⊥ = cc in q)
 
 -- how a hart stands, by what is told of it
-pub state_told : (hart : Hart) (v : HartView) → IsViewOf hart v → state_bytes v.status v.domain v.pc v.regs ≡ state_bytes (status_told hart.status) hart.domain hart.pc hart.regs
+pub state_told : (hart : Hart) (v : HartView) → IsViewOf hart v
+    → state_bytes v.status v.domain v.pc v.regs ≡ state_bytes (status_told hart.status) hart.domain hart.pc hart.regs
 state_told hart v is = search (arith, v.domain, v.pc, hart.domain, hart.pc)

@@ -16,9 +16,11 @@ pub run-valid : (p : Schedule) (n : ℕ) (s : State) → IsFlat (flat s) → IsF
 run-valid p zero s valid = valid
 run-valid p (suc n) s valid = elim (is_stopped p s) as (λ b. IsFlat (flat (next_of p n s b))) [
   | true ↦ valid
-  | false ↦ run-valid p n (turn s (hart_of p s.core)) (subst (λ (f : Flat). IsFlat f) (sym (flat-turn s (hart_of p s.core))) (flat-turned (flat s) (hart_of p s.core) valid))
+  | false ↦ run-valid p n (turn s (hart_of p s.core)) (subst (λ (f : Flat). IsFlat f) (sym (flat-turn s (hart_of p s.core)))
+      (flat-turned (flat s) (hart_of p s.core) valid))
 ]
 
 -- a snapshot's state takes up a run of which it was stored
-pub saved-takes-up : (p : Schedule) (n : ℕ) (s : State) (kept : KeptPlan) → IsFlat (flat s) → TakesUp (run p n s) (state_of (stored_of kept (flat (run p n s))))
+pub saved-takes-up : (p : Schedule) (n : ℕ) (s : State) (kept : KeptPlan) → IsFlat (flat s)
+    → TakesUp (run p n s) (state_of (stored_of kept (flat (run p n s))))
 saved-takes-up p n s kept valid = search (arith, given-back, run-valid)

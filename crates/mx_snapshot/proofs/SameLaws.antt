@@ -31,7 +31,8 @@ pub turn-alike : (s t : State) (h : ℕ) → AreSame (flat s) (flat t) → AreSa
 turn-alike s t h p = ap bare_flat (flat-turn s h) ∙ turn-same (flat s) (flat t) h p ∙ sym (ap bare_flat (flat-turn t h))
 
 -- which hart makes the next turn, and whether there is one
-halted-all : (hs : List Hart) → list_all (λ (hart : Hart). is_halted hart.status) (list_map bare_hart hs) ≡ list_all (λ (hart : Hart). is_halted hart.status) hs
+halted-all : (hs : List Hart) → list_all (λ (hart : Hart). is_halted hart.status) (list_map bare_hart hs)
+    ≡ list_all (λ (hart : Hart). is_halted hart.status) hs
 halted-all [] = refl
 halted-all (x ∷ xs) =
     ap (λ b. b && list_all (λ (hart : Hart). is_halted hart.status) (list_map bare_hart xs)) (halted-bare x.status)
@@ -75,15 +76,18 @@ behind bytes notes s = record s { console = bytes ++ s.console; notes = notes ++
 turn-behind : (bytes : List ℕ) (notes : List Note) (s : State) (h : ℕ) → turn (behind bytes notes s) h ≡ behind bytes notes (turn s h)
 turn-behind bytes notes s h =
     ap (λ (xs : List ℕ). record (turn (behind bytes notes s) h) { console = xs }) (append_assoc bytes s.console (made_of s h).console)
-    ∙ ap (λ (xs : List Note). record (behind bytes notes (turn s h)) { notes = xs }) (append_assoc notes s.notes (option_to_list (made_of s h).note))
+    ∙ ap (λ (xs : List Note). record (behind bytes notes (turn s h)) { notes = xs })
+    (append_assoc notes s.notes (option_to_list (made_of s h).note))
 
 run-behind : (schedule : Schedule) (n : ℕ) (bytes : List ℕ) (notes : List Note) (s : State) →
     run schedule n (behind bytes notes s) ≡ behind bytes notes (run schedule n s)
 run-behind schedule zero bytes notes s = refl
-run-behind schedule (suc n) bytes notes s = elim (is_stopped schedule s) as (λ b. next_of schedule n (behind bytes notes s) b ≡ behind bytes notes (next_of schedule n s b)) [
-  | true ↦ refl
-  | false ↦ ap (run schedule n) (turn-behind bytes notes s (hart_of schedule s.core)) ∙ run-behind schedule n bytes notes (turn s (hart_of schedule s.core))
-]
+run-behind schedule (suc n) bytes notes s = elim (is_stopped schedule s) as (λ b.
+    next_of schedule n (behind bytes notes s) b ≡ behind bytes notes (next_of schedule n s b)) [
+      | true ↦ refl
+      | false ↦ ap (run schedule n) (turn-behind bytes notes s (hart_of schedule s.core))
+          ∙ run-behind schedule n bytes notes (turn s (hart_of schedule s.core))
+    ]
 
 -- a run is that from the same state with neither, after its console bytes and notes
 pub run-silent : (schedule : Schedule) (n : ℕ) (s : State) → run schedule n s ≡ behind s.console s.notes (run schedule n (silent s))
@@ -94,10 +98,12 @@ run-silent schedule n s = ap (run schedule n) (sym whole) ∙ run-behind schedul
         ∙ ap (λ (xs : List Note). record s { notes = xs }) (append-nil s.notes)
 
 -- runs of states whose flat states are the same
-pub run-same : (schedule : Schedule) (n : ℕ) (s t : State) → AreSame (flat s) (flat t) → Match (run schedule n (silent s)) (run schedule n (silent t))
+pub run-same : (schedule : Schedule) (n : ℕ) (s t : State) → AreSame (flat s) (flat t)
+    → Match (run schedule n (silent s)) (run schedule n (silent t))
 run-same schedule n s t p = match-run schedule n (silent s) (silent t) (record { same = p; console = refl; notes = refl })
 
-pub run-alike : (schedule : Schedule) (n : ℕ) (s t : State) → AreSame (flat s) (flat t) → AreSame (flat (run schedule n s)) (flat (run schedule n t))
+pub run-alike : (schedule : Schedule) (n : ℕ) (s t : State) → AreSame (flat s) (flat t)
+    → AreSame (flat (run schedule n s)) (flat (run schedule n t))
 run-alike schedule n s t p = grind (arith, run-silent, run-same)
 
 -- a run taken up, and the rest of the whole run

@@ -14,9 +14,11 @@ use Rattle.mx_model.proofs.Boots.{one_module}
 use Rattle.mx_machine.specs.declared.views.HartStatus.TheVariants as V
 use Rattle.mx_snapshot.specs.Kept.{KeptPlan}
 use Rattle.mx_snapshot.specs.Stored.{Stored, stored_of}
-use Rattle.mx_snapshot.specs.Spelling.{area_bytes, block_bytes, counted, flag_bytes, name_bytes, state_bytes, frame_bytes, gate_bytes, hart_bytes, head_bytes, map_run_bytes, module_bytes, owner_run_bytes, front_bytes, spelling}
+use Rattle.mx_snapshot.specs.Spelling.{area_bytes, block_bytes, counted, flag_bytes, name_bytes, state_bytes, frame_bytes, gate_bytes}
+use Rattle.mx_snapshot.specs.Spelling.{hart_bytes, head_bytes, map_run_bytes, module_bytes, owner_run_bytes, front_bytes, spelling}
 use Rattle.mx_snapshot.specs.Reader.{Took, Fails}
-use Rattle.mx_snapshot.specs.Fields.{block_in, fields_in, frame_in, gate_in, hart_in, head_in, map_run_in, module_in, owner_run_in, stored_in}
+use Rattle.mx_snapshot.specs.Fields.{block_in, fields_in, frame_in, gate_in, hart_in, head_in, map_run_in, module_in, owner_run_in}
+use Rattle.mx_snapshot.specs.Fields.{stored_in}
 
 -- three words, of which one was carried out: a7 = 1, a0 = 5, exit
 abbrev three : State
@@ -67,7 +69,8 @@ first-stored = refl
 
 -- its bytes before RAM's
 first-bytes : take 269 (spelling first) ≡
-    77 ∷ 88 ∷ 83 ∷ 78 ∷ 1 ∷ 0 ∷ 0 ∷ 0 ∷ 0 ∷ 64 ∷ 0 ∷ 0 ∷ 2 ∷ 0 ∷ 0 ∷ 0 ∷ 128 ∷ 0 ∷ 0 ∷ 0 ∷ 0 ∷ 16 ∷ 0 ∷ 0 ∷ 0 ∷ 16 ∷ 0 ∷ 0 ∷ 32 ∷ 0 ∷ 0 ∷ 0 ∷
+    77 ∷ 88 ∷ 83 ∷ 78 ∷ 1 ∷ 0 ∷ 0 ∷ 0 ∷ 0 ∷ 64 ∷ 0 ∷ 0 ∷ 2 ∷ 0 ∷ 0 ∷ 0 ∷ 128 ∷ 0 ∷ 0 ∷ 0 ∷ 0 ∷ 16 ∷ 0 ∷ 0 ∷ 0 ∷ 16 ∷ 0 ∷ 0 ∷ 32 ∷ 0 ∷ 0
+    ∷ 0 ∷
     1 ∷ 0 ∷ 0 ∷ 0 ∷ 1 ∷ 0 ∷ 0 ∷ 0 ∷ 1 ∷ 0 ∷ 0 ∷ 0 ∷ 1 ∷ 0 ∷ 0 ∷ 0 ∷ 0 ∷ 0 ∷ 0 ∷ 0 ∷ 1 ∷ 0 ∷ 0 ∷ 0 ∷ 109 ∷ 0 ∷ 0 ∷ 0 ∷ 0 ∷ 0 ∷ 0 ∷ 0 ∷
     0 ∷ 0 ∷ 0 ∷ 0 ∷ 0 ∷ 0 ∷ 0 ∷ 0 ∷ 0 ∷ 0 ∷ 0 ∷ 0 ∷ 0 ∷ 0 ∷ 0 ∷ 0 ∷ 0 ∷ 0 ∷ 0 ∷ 0 ∷ 0 ∷ 2 ∷ 0 ∷ 0 ∷ 0 ∷ 15 ∷ 0 ∷ 0 ∷ 0 ∷ 244 ∷ 255 ∷ 0 ∷
     0 ∷ 2 ∷ 0 ∷ 0 ∷ 0 ∷ 3 ∷ 0 ∷ 0 ∷ 0 ∷ 1 ∷ 0 ∷ 0 ∷ 0 ∷ 253 ∷ 63 ∷ 0 ∷ 0 ∷ 0 ∷ 0 ∷ 0 ∷ 0 ∷ 0 ∷ 0 ∷ 0 ∷ 0 ∷ 0 ∷ 0 ∷ 0 ∷ 0 ∷ 1 ∷ 0 ∷ 0 ∷
@@ -76,31 +79,43 @@ first-bytes : take 269 (spelling first) ≡
     0 ∷ 0 ∷ 0 ∷ 0 ∷ 0 ∷ 0 ∷ 0 ∷ 0 ∷ 0 ∷ 1 ∷ 0 ∷ 0 ∷ 0 ∷ 0 ∷ 0 ∷ 0 ∷ 0 ∷ 0 ∷ 0 ∷ 0 ∷ 0 ∷ 0 ∷ 0 ∷ 0 ∷ 0 ∷ 0 ∷ 0 ∷ 0 ∷ 0 ∷ 0 ∷ 0 ∷ 0 ∷
     0 ∷ 0 ∷ 0 ∷ 0 ∷ 0 ∷ 0 ∷ 0 ∷ 0 ∷ 0 ∷ 0 ∷ 0 ∷ 0 ∷ 0 ∷ 0 ∷ 0 ∷ 0 ∷ 0 ∷ 0 ∷ 0 ∷ 0 ∷ 0 ∷ 0 ∷ 0 ∷ 0 ∷ 0 ∷ 0 ∷ 0 ∷ 0 ∷ 0 ∷ 0 ∷ 0 ∷ 0 ∷
     0 ∷ 0 ∷ 0 ∷ 0 ∷ 0 ∷ 0 ∷ 0 ∷ 0 ∷ 0 ∷ 0 ∷ 0 ∷ 0 ∷ 0 ∷ []
-unfolding spelling front_bytes head_bytes counted name_bytes area_bytes flag_bytes state_bytes module_bytes map_run_bytes owner_run_bytes gate_bytes hart_bytes block_bytes frame_bytes
+unfolding spelling front_bytes head_bytes counted name_bytes area_bytes flag_bytes state_bytes module_bytes map_run_bytes owner_run_bytes
+    gate_bytes hart_bytes block_bytes frame_bytes
 first-bytes = refl
 
 first-length : length (spelling first) ≡ 65805
-unfolding spelling front_bytes head_bytes counted name_bytes area_bytes flag_bytes state_bytes module_bytes map_run_bytes owner_run_bytes gate_bytes hart_bytes block_bytes frame_bytes
+unfolding spelling front_bytes head_bytes counted name_bytes area_bytes flag_bytes state_bytes module_bytes map_run_bytes owner_run_bytes
+    gate_bytes hart_bytes block_bytes frame_bytes
 first-length = refl
 
 -- it is read back whole
 first-read : stored_in (spelling first) ≡ Took first 65805
-unfolding spelling front_bytes head_bytes counted name_bytes area_bytes flag_bytes state_bytes module_bytes map_run_bytes owner_run_bytes gate_bytes hart_bytes block_bytes frame_bytes stored_in fields_in head_in module_in block_in map_run_in owner_run_in gate_in frame_in hart_in number_at
+unfolding spelling front_bytes head_bytes counted name_bytes area_bytes flag_bytes state_bytes module_bytes map_run_bytes owner_run_bytes
+    gate_bytes hart_bytes block_bytes frame_bytes stored_in fields_in head_in module_in block_in map_run_in owner_run_in gate_in frame_in
+    hart_in number_at
 first-read = refl
 
 -- its first eight bytes alone; another first byte; a byte behind it; all before RAM alone
 cut-at-8 : stored_in (take 8 (spelling first)) ≡ Fails 8 2
-unfolding spelling front_bytes head_bytes counted name_bytes area_bytes flag_bytes state_bytes module_bytes map_run_bytes owner_run_bytes gate_bytes hart_bytes block_bytes frame_bytes stored_in fields_in head_in module_in block_in map_run_in owner_run_in gate_in frame_in hart_in number_at
+unfolding spelling front_bytes head_bytes counted name_bytes area_bytes flag_bytes state_bytes module_bytes map_run_bytes owner_run_bytes
+    gate_bytes hart_bytes block_bytes frame_bytes stored_in fields_in head_in module_in block_in map_run_in owner_run_in gate_in frame_in
+    hart_in number_at
 cut-at-8 = refl
 
 other-sign : stored_in (slice_set (spelling first) 0 0) ≡ Fails 0 3
-unfolding spelling front_bytes head_bytes counted name_bytes area_bytes flag_bytes state_bytes module_bytes map_run_bytes owner_run_bytes gate_bytes hart_bytes block_bytes frame_bytes stored_in fields_in head_in module_in block_in map_run_in owner_run_in gate_in frame_in hart_in number_at
+unfolding spelling front_bytes head_bytes counted name_bytes area_bytes flag_bytes state_bytes module_bytes map_run_bytes owner_run_bytes
+    gate_bytes hart_bytes block_bytes frame_bytes stored_in fields_in head_in module_in block_in map_run_in owner_run_in gate_in frame_in
+    hart_in number_at
 other-sign = refl
 
 one-byte-more : stored_in (spelling first ++ 0 ∷ []) ≡ Fails 65805 5
-unfolding spelling front_bytes head_bytes counted name_bytes area_bytes flag_bytes state_bytes module_bytes map_run_bytes owner_run_bytes gate_bytes hart_bytes block_bytes frame_bytes stored_in fields_in head_in module_in block_in map_run_in owner_run_in gate_in frame_in hart_in number_at
+unfolding spelling front_bytes head_bytes counted name_bytes area_bytes flag_bytes state_bytes module_bytes map_run_bytes owner_run_bytes
+    gate_bytes hart_bytes block_bytes frame_bytes stored_in fields_in head_in module_in block_in map_run_in owner_run_in gate_in frame_in
+    hart_in number_at
 one-byte-more = refl
 
 no-ram : stored_in (take 269 (spelling first)) ≡ Fails 269 2
-unfolding spelling front_bytes head_bytes counted name_bytes area_bytes flag_bytes state_bytes module_bytes map_run_bytes owner_run_bytes gate_bytes hart_bytes block_bytes frame_bytes stored_in fields_in head_in module_in block_in map_run_in owner_run_in gate_in frame_in hart_in number_at
+unfolding spelling front_bytes head_bytes counted name_bytes area_bytes flag_bytes state_bytes module_bytes map_run_bytes owner_run_bytes
+    gate_bytes hart_bytes block_bytes frame_bytes stored_in fields_in head_in module_in block_in map_run_in owner_run_in gate_in frame_in
+    hart_in number_at
 no-ram = refl

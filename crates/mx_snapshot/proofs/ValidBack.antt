@@ -1,5 +1,6 @@
 -- Of a valid snapshot's state the same snapshot is stored again.
-use Rattle.std.proofs.Common.{◌≡◌, ℕ, ◌+◌, ◌<◌, ◌≤◌, ◌==◌, true, List, [], ◌∷◌, ◌++◌, length, get_or, refl, ap, ◌∙◌, subst, arith, length-append}
+use Rattle.std.proofs.Common.{◌≡◌, ℕ, ◌+◌, ◌<◌, ◌≤◌, ◌==◌, true, List, [], ◌∷◌, ◌++◌, length, get_or, refl, ap, ◌∙◌, subst, arith}
+use Rattle.std.proofs.Common.{length-append}
 use Rattle.std.proofs.Common.{map as list_map}
 use Rattle.std.specs.List.{AllByRecursion, enumerate_from, range_with_len}
 use Rattle.std.proofs.lemmas.Bool.{and_parts, eqb-true}
@@ -26,7 +27,8 @@ use Rattle.mx_snapshot.specs.Rules.{has_place, is_heard, is_next_run, is_other, 
 use Rattle.mx_snapshot.specs.Stored.{Head, Stored, StoredHart, StoredModule, heard_of, named_module, stored_hart, stored_of}
 
 -- the runs of a module's map
-run-parts : (words runs : ℕ) (before : List (Run Perm)) (r : Run Perm) → is_next_run words runs before r ≡ true → (has_place words runs before r.count ≡ true) × (is_other same before r.value ≡ true)
+run-parts : (words runs : ℕ) (before : List (Run Perm)) (r : Run Perm) → is_next_run words runs before r ≡ true
+    → (has_place words runs before r.count ≡ true) × (is_other same before r.value ≡ true)
 run-parts words runs before r e = and_parts (has_place words runs before r.count) (is_other same before r.value) e
 
 module _ (h : Head) (before : List StoredModule) (m : StoredModule) (is : IsStoredModule h before m) where
@@ -37,10 +39,12 @@ module _ (h : Head) (before : List StoredModule) (m : StoredModule) (is : IsStor
   map-words = words-covered h.words fits m.map (λ others r e. (run-parts h.words (length m.map) others r e).0) is.some_runs is.map
 
   some-words : AllByRecursion (λ (r : Run Perm). 0 < r.count) m.map
-  some-words = each_holds fits (λ (r : Run Perm). 0 < r.count) (λ others r e. (small_place h.words (length m.map) others r.count (run-parts h.words (length m.map) others r e).0).0) m.map [] is.map
+  some-words = each_holds fits (λ (r : Run Perm). 0 < r.count) (λ others r e.
+      (small_place h.words (length m.map) others r.count (run-parts h.words (length m.map) others r e).0).0) m.map [] is.map
 
   maximal : AreMaximal same m.map
-  maximal = maximal-from same m.map [] (each_turned fits (λ others (r : Run Perm). is_other same others r.value ≡ true) (λ others r e. (run-parts h.words (length m.map) others r e).1) m.map [] is.map)
+  maximal = maximal-from same m.map [] (each_turned fits (λ others (r : Run Perm). is_other same others r.value ≡ true) (λ others r e.
+      (run-parts h.words (length m.map) others r e).1) m.map [] is.map)
 
   pub map-again : runs_of same (map (laid_runs 0 m.map) h.words) ≡ m.map
   map-again = ap (runs_of same) (map-covered m.map h.words map-words) ∙ runs-again same same_refl m.map some-words maximal
@@ -49,10 +53,13 @@ pub owners-again : (s : Stored) → IsStored s → runs_of (λ (a b : ℕ). a ==
 owners-again s f =
     let runs = length s.owners in
     let fits = IsOwnerRun s.head runs in
-    let some = each_holds fits (λ (r : Run ℕ). 0 < r.count) (λ others r is. (small_place s.head.words runs others r.count is.count).0) s.owners [] f.owners in
+    let some = each_holds fits (λ (r : Run ℕ). 0 < r.count) (λ others r is. (small_place s.head.words runs others r.count is.count).0)
+    s.owners [] f.owners in
     let maximal = maximal-from (λ (a b : ℕ). a == b) s.owners []
-    (each_turned fits (λ others (r : Run ℕ). is_other (λ a b. a == b) others r.value ≡ true) (λ others r is. (owner-parts s.head runs others r is).1) s.owners [] f.owners) in
-    ap (runs_of (λ (a b : ℕ). a == b)) (owners-covered s.owners s.head.words (owners-words s f)) ∙ runs-again (λ (a b : ℕ). a == b) nat-itself s.owners some maximal
+    (each_turned fits (λ others (r : Run ℕ). is_other (λ a b. a == b) others r.value ≡ true) (λ others r is.
+    (owner-parts s.head runs others r is).1) s.owners [] f.owners) in
+    ap (runs_of (λ (a b : ℕ). a == b)) (owners-covered s.owners s.head.words (owners-words s f))
+    ∙ runs-again (λ (a b : ℕ). a == b) nat-itself s.owners some maximal
 
 -- a hart
 hart-again : (harts n : ℕ) (x : StoredHart) (status : HartStatus) → harts ≤ 4 → is_heard harts n status x.heard ≡ true →
@@ -66,16 +73,24 @@ hart-again : (harts n : ℕ) (x : StoredHart) (status : HartStatus) → harts �
     }) (record x { status = status })
 hart-again harts n x x1 few e = grind (arith, eqb-true, heard-again)
 
-harts-from : (h : Head) (xs before : List StoredHart) (n : ℕ) → length before ≡ n → h.harts ≤ 4 → EachFits (IsStoredHart h) before xs → list_map stored_hart (list_map hart_in_state (enumerate_from n xs)) ≡ xs
+harts-from : (h : Head) (xs before : List StoredHart) (n : ℕ) → length before ≡ n → h.harts ≤ 4 → EachFits (IsStoredHart h) before xs
+    → list_map stored_hart (list_map hart_in_state (enumerate_from n xs)) ≡ xs
 harts-from h [] before n count few f = refl
 harts-from h (x ∷ xs) before n count few f =
     let heard = subst (λ (k : ℕ). is_heard h.harts k x.status x.heard ≡ true) count f.0.heard in
-    ap (λ (y : StoredHart). y ∷ list_map stored_hart (list_map hart_in_state (enumerate_from (n + 1) xs))) (hart-again h.harts n x x.status few heard)
-    ∙ ap (λ (ys : List StoredHart). x ∷ ys) (harts-from h xs (before ++ x ∷ []) (n + 1) (omega (arith, count, length-append before (x ∷ []))) few f.1)
+    ap (λ (y : StoredHart). y ∷ list_map stored_hart (list_map hart_in_state (enumerate_from (n + 1) xs)))
+    (hart-again h.harts n x x.status few heard)
+    ∙ ap (λ (ys : List StoredHart). x ∷ ys) (harts-from h xs (before ++ x ∷ []) (n + 1)
+    (omega (arith, count, length-append before (x ∷ []))) few f.1)
 
 -- a module by the name, the module and the map at its place
 abbrev place_of : List (List ℕ) → List Module → List (List Perm) → ℕ → ℕ → StoredModule
-place_of names homes maps words k = record { name = get_or names k []; home = get_or homes k no_module; map = runs_of same (get_or maps k (map [] words)) }
+place_of names homes maps words k = record {
+  name = get_or names k [];
+  home = get_or homes k no_module;
+  map =
+      runs_of same (get_or maps k (map [] words));
+}
 
 module _ (s : Stored) (f : IsStored s) where
   abbrev ms : List StoredModule
@@ -103,7 +118,8 @@ module _ (s : Stored) (f : IsStored s) where
       let name : get_or names i [] ≡ m.name = get_or-map (λ (m : StoredModule). m.name) ms i no_stored_module [] lt in
       let home : get_or homes i no_module ≡ m.home = get_or-map (λ (m : StoredModule). m.home) ms i no_stored_module no_module lt in
       let rights : get_or maps i (map [] words) ≡ map (laid_runs 0 m.map) words =
-      get_or-map (λ (g : List Grant). map g words) laid i [] (map [] words) (omega (arith, lt, length-map ms (λ (m : StoredModule). laid_runs 0 m.map)))
+      get_or-map (λ (g : List Grant). map g words) laid i [] (map [] words)
+      (omega (arith, lt, length-map ms (λ (m : StoredModule). laid_runs 0 m.map)))
       ∙ ap (λ (g : List Grant). map g words) (get_or-map (λ (m : StoredModule). laid_runs 0 m.map) ms i no_stored_module [] lt) in
       ap (λ (x : List ℕ). record { name = x; home = get_or homes i no_module; map = runs_of same (get_or maps i (map [] words)) }) name
       ∙ ap (λ (x : Module). record { name = m.name; home = x; map = runs_of same (get_or maps i (map [] words)) }) home
@@ -138,7 +154,8 @@ module _ (s : Stored) (f : IsStored s) where
       ∙ ap (λ (k : ℕ). stored_with s.head.modules k stored runs others) (length-harts s f)
       ∙ ap (λ (x : List StoredModule). stored_with s.head.modules s.head.harts x runs others) modules-again
       ∙ ap (λ (x : List (Run ℕ)). stored_with s.head.modules s.head.harts ms x others) (owners-again s f)
-      ∙ ap (λ (x : List StoredHart). stored_with s.head.modules s.head.harts ms s.owners x) (harts-from s.head s.harts [] 0 refl f.head.harts.1 f.harts)
+      ∙ ap (λ (x : List StoredHart). stored_with s.head.modules s.head.harts ms s.owners x)
+      (harts-from s.head s.harts [] 0 refl f.head.harts.1 f.harts)
 
 pub stored-again : (s : Stored) → IsStored s → stored_of (plan_of s) (flat (state_of s)) ≡ s
 stored-again s f = again s f

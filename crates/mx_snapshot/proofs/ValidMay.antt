@@ -1,5 +1,6 @@
 -- A checker, a supervisor and a machine may go on with a valid snapshot's parts.
-use Rattle.std.proofs.Common.{◌≡◌, inr, ℕ, ◌+◌, ◌-◌, ◌<◌, ◌≤◌, Bool, true, false, List, [], ◌∷◌, ◌++◌, length, get_or, Option, refl, sym, ◌∙◌, subst, arith, length-append}
+use Rattle.std.proofs.Common.{◌≡◌, inr, ℕ, ◌+◌, ◌-◌, ◌<◌, ◌≤◌, Bool, true, false, List, [], ◌∷◌, ◌++◌, length, get_or, Option, refl, sym}
+use Rattle.std.proofs.Common.{◌∙◌, subst, arith, length-append}
 use Rattle.std.proofs.Common.{map as list_map}
 use Rattle.std.specs.Prelude.{All}
 use Rattle.std.specs.List.{AllByRecursion}
@@ -58,10 +59,12 @@ module _ (s : Stored) (f : IsStored s) where
   IsInside heap = heap.area.first + heap.area.count ≤ h.words
 
   heaps-inside : AllByRecursion IsInside (parts_in s).heaps
-  heaps-inside = all_mapped heap_in IsInside s.modules (each_holds (IsStoredModule h) (λ (m : StoredModule). IsInside (heap_in m)) (λ before m is. (home-fits h before m is).heap) s.modules [] f.modules)
+  heaps-inside = all_mapped heap_in IsInside s.modules (each_holds (IsStoredModule h) (λ (m : StoredModule). IsInside (heap_in m))
+      (λ before m is. (home-fits h before m is).heap) s.modules [] f.modules)
 
   whole-maps : AllByRecursion (λ (m : List Perm). length m ≡ h.words) (parts_in s).maps
-  whole-maps = all_mapped map_in (λ (m : List Perm). length m ≡ h.words) s.modules (all_each (λ (m : StoredModule). length (map_in m) ≡ h.words) s.modules (λ m. length-map_of (laid_runs 0 m.map) h.words))
+  whole-maps = all_mapped map_in (λ (m : List Perm). length m ≡ h.words) s.modules
+      (all_each (λ (m : StoredModule). length (map_in m) ≡ h.words) s.modules (λ m. length-map_of (laid_runs 0 m.map) h.words))
 
   pub sound : IsSound (parts_in s)
   sound =
@@ -105,7 +108,8 @@ module _ (s : Stored) (f : IsStored s) where
       let long = length-append before (x ∷ []) in
       let next : length (before ++ x ∷ []) ≡ length before + 1 = long in
       let rest = all-resumable xs (before ++ x ∷ []) fits.1 (omega (arith, count, long)) in
-      all-join (IsResumable (length s.harts) h.words) (own_flights h.words (parts_in s).heaps (length before) x x.status) (flights_from h.words (parts_in s).heaps (length before + 1) xs)
+      all-join (IsResumable (length s.harts) h.words) (own_flights h.words (parts_in s).heaps (length before) x x.status)
+      (flights_from h.words (parts_in s).heaps (length before + 1) xs)
       (own-resumable (length before) x x.status (omega (arith, count)) fits.0.heard)
       (subst (λ (k : ℕ). AllByRecursion (IsResumable (length s.harts) h.words) (flights_from h.words (parts_in s).heaps k xs)) next rest)
 
@@ -115,13 +119,18 @@ module _ (s : Stored) (f : IsStored s) where
   -- harts
   hart-state : (before : List StoredHart) (x : StoredHart) → IsStoredHart h before x → IsHartState (parts_in s) (state_in x)
   hart-state before x is =
-      let fits : IsHart h.modules h.harts (length before) (hart_in_state (length before, x)) = hart-fits h before x (length before) refl is in
+      let fits : IsHart h.modules h.harts (length before) (hart_in_state (length before, x)) =
+      hart-fits h before x (length before) refl is in
       record {
         domain = record { first = fits.domain.first; last = subst (λ (k : ℕ). x.domain ≤ k) (sym length-maps) fits.domain.last };
         pc = fits.pc.aligned;
         x0 = fits.regs.x0;
         frames = all-weaker (IsFrame h.modules) (IsBackPlace (parts_in s)) x.frames
-            (λ (g : Frame) is. record { back = is.back.aligned; caller = record { first = is.caller.first; last = subst (λ (k : ℕ). g.caller ≤ k) (sym length-maps) is.caller.last } })
+            (λ (g : Frame) is. record {
+              back = is.back.aligned;
+              caller =
+                  record { first = is.caller.first; last = subst (λ (k : ℕ). g.caller ≤ k) (sym length-maps) is.caller.last };
+            })
             fits.frames;
       }
 
@@ -131,7 +140,8 @@ module _ (s : Stored) (f : IsStored s) where
   hart-flies : (n : ℕ) (x : StoredHart) (status : HartStatus) → is_register status 17 (get_or x.regs 17 0) ≡ true → flies n x status
   hart-flies n x x1 number = grind arith
 
-  hart-unused : (n : ℕ) → n < length s.harts → IsUnused (parts_in s) n (get_or (list_map state_in s.harts) n no_state) (kept_at (parts_in s).harts n)
+  hart-unused : (n : ℕ) → n < length s.harts → IsUnused (parts_in s) n (get_or (list_map state_in s.harts) n no_state)
+      (kept_at (parts_in s).harts n)
   hart-unused n lt =
       let x = get_or s.harts n no_stored in
       let found = each_at (IsStoredHart h) s.harts [] f.harts n no_stored lt in
@@ -142,10 +152,12 @@ module _ (s : Stored) (f : IsStored s) where
         cache = refl;
         halted = refl;
         domain = refl;
-        flight = subst (λ (o : Option Flight). FliesIfWaiting (parts_in s) n (state_in x) x.status o) (sym call) (hart-flies n x x.status (register-at x.status x.regs 17 is.regs (omega (arith, count))));
+        flight = subst (λ (o : Option Flight). FliesIfWaiting (parts_in s) n (state_in x) x.status o) (sym call)
+            (hart-flies n x x.status (register-at x.status x.regs 17 is.regs (omega (arith, count))));
       } in
       let one = subst (λ (k : Kept). IsUnused (parts_in s) n (state_in x) k) (sym (kept-at (flights_in s) (length s.harts) n lt)) unused in
-      subst (λ (y : HartState). IsUnused (parts_in s) n y (kept_at (parts_in s).harts n)) (sym (get_or-map state_in s.harts n no_stored no_state lt)) one
+      subst (λ (y : HartState). IsUnused (parts_in s) n y (kept_at (parts_in s).harts n))
+      (sym (get_or-map state_in s.harts n no_stored no_state lt)) one
 
   -- modules
   abbrev dead_of : StoredModule → Bool
@@ -162,12 +174,14 @@ module _ (s : Stored) (f : IsStored s) where
       record {
         some_harts = omega (arith, states, count, harts.0);
         same_harts = length-list_below (length s.harts) (waiting_hart (flights_in s)) ∙ sym states;
-        each = all_mapped state_in (IsHartState (parts_in s)) s.harts (each_holds (IsStoredHart h) (λ (x : StoredHart). IsHartState (parts_in s) (state_in x)) hart-state s.harts [] f.harts);
+        each = all_mapped state_in (IsHartState (parts_in s)) s.harts
+            (each_holds (IsStoredHart h) (λ (x : StoredHart). IsHartState (parts_in s) (state_in x)) hart-state s.harts [] f.harts);
         unused = λ n lt. hart-unused n (omega (arith, lt, states));
         count = length-map s.modules stack_in ∙ sym (length-map s.modules map_in);
         areas = subst (λ (k : ℕ). AllByRecursion (IsStack h.words k) (list_map stack_in s.modules)) (sym (states ∙ count))
             (all_mapped stack_in (IsStack h.words h.harts) s.modules
-            (each_holds (IsStoredModule h) (λ (m : StoredModule). IsStack h.words h.harts (stack_in m)) (λ before m is. inr (home-fits h before m is).stack) s.modules [] f.modules));
+            (each_holds (IsStoredModule h) (λ (m : StoredModule). IsStack h.words h.harts (stack_in m)) (λ before m is.
+            inr (home-fits h before m is).stack) s.modules [] f.modules));
         dead_modules = dead-is;
         few_steps = f.head.turns;
       }
@@ -181,5 +195,6 @@ gates-fit s f = gates s f
 pub flights-fit : (s : Stored) → IsStored s → All (IsResumable (length s.harts) s.head.words) (flights_in s)
 flights-fit s f = flights s f
 
-pub may-go : (s : Stored) → IsStored s → MayResume (parts_in s) (list_map state_in s.harts) (list_map stack_in s.modules) (dead_in s.modules) s.head.turns
+pub may-go : (s : Stored) → IsStored s → MayResume (parts_in s) (list_map state_in s.harts) (list_map stack_in s.modules)
+    (dead_in s.modules) s.head.turns
 may-go s f = may s f

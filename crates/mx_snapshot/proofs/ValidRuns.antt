@@ -1,9 +1,11 @@
 -- Runs laid over their words: what they cover, the maps and owners that they give, and the rows of their spans.
-use Rattle.std.proofs.Common.{◌≡◌, ℕ, zero, suc, ◌+◌, ◌-◌, ◌<◌, ◌≤◌, ◌==◌, Bool, true, false, cond, List, [], ◌∷◌, ◌++◌, length, get_or, replicate, refl, sym, ap, ◌∙◌, subst, arith, append_assoc, length-append, ⊎_elim}
+use Rattle.std.proofs.Common.{◌≡◌, ℕ, zero, suc, ◌+◌, ◌-◌, ◌<◌, ◌≤◌, ◌==◌, Bool, true, false, cond, List, [], ◌∷◌, ◌++◌, length, get_or}
+use Rattle.std.proofs.Common.{replicate, refl, sym, ap, ◌∙◌, subst, arith, append_assoc, length-append, ⊎_elim}
 use Rattle.std.proofs.Common.{map as list_map}
 use Rattle.std.specs.List.{AllByRecursion, range_with_len}
 use Rattle.std.proofs.lemmas.Bool.{cases_lt, eq-eqb, eqb-true}
-use Rattle.std.proofs.lemmas.List.{append-nil, ext_get_or, get_or-append_right, get_or-replicate, get_or_append_left, get_or_past, length-replicate}
+use Rattle.std.proofs.lemmas.List.{append-nil, ext_get_or, get_or-append_right, get_or-replicate, get_or_append_left, get_or_past}
+use Rattle.std.proofs.lemmas.List.{length-replicate}
 use Rattle.std.proofs.lemmas.List.FromFn.{get_or-map-range_with_len, length-map-range_with_len}
 use Rattle.std.proofs.lemmas.List.Sums.{sum_by-cons, sum_by_push}
 use Rattle.mx_words.specs.declared.perm.Perm.{Perm}
@@ -35,10 +37,12 @@ run_words-more rs r = sum_by_push (λ x. x.count) rs r
 pub length-covered : {A : Type 0} (rs : List (Run A)) → length (covered rs) ≡ run_words rs
 length-covered [] = refl
 length-covered (r ∷ rs) = length-append (replicate r.count r.value) (covered rs)
-    ∙ ap (λ n. n + length (covered rs)) (length-replicate r.count r.value) ∙ ap (λ n. r.count + n) (length-covered rs) ∙ sym (run_words-cons r rs)
+    ∙ ap (λ n. n + length (covered rs)) (length-replicate r.count r.value) ∙ ap (λ n. r.count + n) (length-covered rs)
+    ∙ sym (run_words-cons r rs)
 
 -- one more run
-pub laid_runs-more : {A : Type 0} (a : ℕ) (rs : List (Run A)) (r : Run A) → laid_runs a (rs ++ r ∷ []) ≡ laid_runs a rs ++ entry_of (a + run_words rs) r ∷ []
+pub laid_runs-more : {A : Type 0} (a : ℕ) (rs : List (Run A)) (r : Run A)
+    → laid_runs a (rs ++ r ∷ []) ≡ laid_runs a rs ++ entry_of (a + run_words rs) r ∷ []
 laid_runs-more a [] r = let e : a ≡ a + 0 = omega arith in ap (λ k. entry_of k r ∷ []) e
 laid_runs-more a (q ∷ rs) r =
     let words = run_words-cons q rs in
@@ -49,7 +53,8 @@ laid_runs-more a (q ∷ rs) r =
 newest-below : {A : Type 0} (d : A) (a i : ℕ) (rs : List (Run A)) → i < a → newest d (laid_runs a rs) i ≡ d
 newest-below d a i [] lt = refl
 newest-below d a i (r ∷ rs) lt =
-    ap (λ x. newest x (laid_runs (a + r.count) rs) i) (laid_at_below i d (entry_of a r) lt) ∙ newest-below d (a + r.count) i rs (omega arith)
+    ap (λ x. newest x (laid_runs (a + r.count) rs) i) (laid_at_below i d (entry_of a r) lt)
+    ∙ newest-below d (a + r.count) i rs (omega arith)
 
 -- at word a + i lies what the runs cover at place i
 pub newest-covered : {A : Type 0} (d : A) (a i : ℕ) (rs : List (Run A)) → newest d (laid_runs a rs) (a + i) ≡ get_or (covered rs) i d
@@ -87,16 +92,19 @@ get_or-behind xs k i d = ⊎_elim
         (λ (le : k ≤ j). get_or_past (replicate k d) j d (omega (arith, length-replicate k d, le))) (cases_lt j k)
 
 -- the values of all words, of which k lie behind the runs
-laid-all : {A : Type 0} (d : A) (rs : List (Run A)) (words k : ℕ) → run_words rs + k ≡ words → list_map (newest d (laid_runs 0 rs)) (range_with_len 0 words) ≡ covered rs ++ replicate k d
+laid-all : {A : Type 0} (d : A) (rs : List (Run A)) (words k : ℕ) → run_words rs + k ≡ words
+    → list_map (newest d (laid_runs 0 rs)) (range_with_len 0 words) ≡ covered rs ++ replicate k d
 laid-all d rs words k e =
     let long = length-map-range_with_len (newest d (laid_runs 0 rs)) 0 words in
     let other : length (covered rs ++ replicate k d) ≡ words =
-    length-append (covered rs) (replicate k d) ∙ ap (λ n. n + length (replicate k d)) (length-covered rs) ∙ ap (λ n. run_words rs + n) (length-replicate k d) ∙ e in
+    length-append (covered rs) (replicate k d) ∙ ap (λ n. n + length (replicate k d)) (length-covered rs)
+    ∙ ap (λ n. run_words rs + n) (length-replicate k d) ∙ e in
     ext_get_or d (list_map (newest d (laid_runs 0 rs)) (range_with_len 0 words)) (covered rs ++ replicate k d) (long ∙ sym other)
     (λ i lt. get_or-map-range_with_len (newest d (laid_runs 0 rs)) 0 words i i d (omega (arith, long, lt)) (omega arith)
     ∙ newest-first d i rs ∙ sym (get_or-behind (covered rs) k i d))
 
-pub laid-whole : {A : Type 0} (d : A) (rs : List (Run A)) (words : ℕ) → run_words rs ≡ words → list_map (newest d (laid_runs 0 rs)) (range_with_len 0 words) ≡ covered rs
+pub laid-whole : {A : Type 0} (d : A) (rs : List (Run A)) (words : ℕ) → run_words rs ≡ words
+    → list_map (newest d (laid_runs 0 rs)) (range_with_len 0 words) ≡ covered rs
 laid-whole d rs words e = laid-all d rs words 0 (omega (arith, e)) ∙ append-nil (covered rs)
 
 -- maps and owners of runs that cover all words
@@ -128,21 +136,26 @@ begins-first eq v (q ∷ qs) = elim (eq v q.value) as
       | false ↦ record { count = 1; rest = q ∷ qs; is = refl; few = omega arith }
     ]
 
-begins-again : {A : Type 0} (eq : A → A → Bool) (v : A) (most : ℕ) (qs : List (Run A)) → eq v v ≡ true → Begins v most qs → Begins v most (run_before eq v qs)
+begins-again : {A : Type 0} (eq : A → A → Bool) (v : A) (most : ℕ) (qs : List (Run A)) → eq v v ≡ true → Begins v most qs
+    → Begins v most (run_before eq v qs)
 begins-again eq v most qs e b = record {
   count = b.count + 1;
   rest = b.rest;
   is = ap (run_before eq v) b.is
-      ∙ ap (λ t. cond t (record { count = b.count + 1; value = v } ∷ b.rest) (record { count = 1; value = v } ∷ record { count = b.count; value = v } ∷ b.rest)) e;
+      ∙ ap (λ t. cond t (record { count = b.count + 1; value = v } ∷ b.rest)
+      (record { count = 1; value = v } ∷ record { count = b.count; value = v } ∷ b.rest)) e;
   few = b.few;
 }
 
-begins-front : {A : Type 0} (eq : A → A → Bool) (v : A) (c : ℕ) (ys : List A) → eq v v ≡ true → Begins v (length (runs_of eq ys)) (runs_of eq (replicate (suc c) v ++ ys))
+begins-front : {A : Type 0} (eq : A → A → Bool) (v : A) (c : ℕ) (ys : List A) → eq v v ≡ true
+    → Begins v (length (runs_of eq ys)) (runs_of eq (replicate (suc c) v ++ ys))
 begins-front eq v zero ys e = begins-first eq v (runs_of eq ys)
-begins-front eq v (suc c) ys e = begins-again eq v (length (runs_of eq ys)) (runs_of eq (replicate (suc c) v ++ ys)) e (begins-front eq v c ys e)
+begins-front eq v (suc c) ys e = begins-again eq v (length (runs_of eq ys)) (runs_of eq (replicate (suc c) v ++ ys)) e
+    (begins-front eq v c ys e)
 
 -- equal values in front add at most one run
-runs-front : {A : Type 0} (eq : A → A → Bool) (v : A) (c : ℕ) (ys : List A) → eq v v ≡ true → length (runs_of eq (replicate c v ++ ys)) ≤ length (runs_of eq ys) + 1
+runs-front : {A : Type 0} (eq : A → A → Bool) (v : A) (c : ℕ) (ys : List A) → eq v v ≡ true
+    → length (runs_of eq (replicate c v ++ ys)) ≤ length (runs_of eq ys) + 1
 runs-front eq v zero ys e = omega arith
 runs-front eq v (suc c) ys e =
     let b = begins-front eq v c ys e in
@@ -150,7 +163,8 @@ runs-front eq v (suc c) ys e =
     let few = b.few in
     omega (arith, n, few)
 
-runs-covered : {A : Type 0} (eq : A → A → Bool) (rs : List (Run A)) (zs : List A) → ((x : A) → eq x x ≡ true) → length (runs_of eq (covered rs ++ zs)) ≤ length rs + length (runs_of eq zs)
+runs-covered : {A : Type 0} (eq : A → A → Bool) (rs : List (Run A)) (zs : List A) → ((x : A) → eq x x ≡ true)
+    → length (runs_of eq (covered rs ++ zs)) ≤ length rs + length (runs_of eq zs)
 runs-covered eq [] zs h = omega arith
 runs-covered {A} eq (r ∷ rs) zs h =
     let e = ap (λ (xs : List A). length (runs_of eq xs)) (append_assoc (replicate r.count r.value) (covered rs) zs) in
@@ -184,7 +198,8 @@ spans-below x a i [] lt = refl
 spans-below x a i (r ∷ rs) lt =
     let later = spans-below x (a + r.count) i rs (omega arith) in
     let span : Span = record { first = a; count = r.count; perm = r.value } in
-    elim (same r.value P.None) as (λ b. newest x (list_map granted (cond b (spans_in (a + r.count) rs) (span ∷ spans_in (a + r.count) rs))) i ≡ x) [
+    elim (same r.value P.None) as (λ b. newest x (list_map granted (cond b (spans_in (a + r.count) rs) (span ∷ spans_in (a + r.count) rs)))
+    i ≡ x) [
       | true ↦ later
       | false ↦ ap (λ y. newest y (list_map granted (spans_in (a + r.count) rs)) i) (laid_at_below i x (entry_of a r) lt) ∙ later
     ]
@@ -202,14 +217,16 @@ spans-newest a i (r ∷ rs) =
     ⊎_elim
     (λ (lt : i < a + r.count).
     elim (same r.value P.None) as (λ b. same r.value P.None ≡ b → others b ≡ newest value (laid_runs (a + r.count) rs) i) [
-      | true ↦ λ e. spans-below P.None (a + r.count) i rs lt ∙ sym (newest-below value (a + r.count) i rs lt ∙ no-rights i (entry_of a r) (same_eq r.value P.None e))
+      | true ↦ λ e. spans-below P.None (a + r.count) i rs lt ∙ sym (newest-below value (a + r.count) i rs lt
+          ∙ no-rights i (entry_of a r) (same_eq r.value P.None e))
       | false ↦ λ e. spans-below value (a + r.count) i rs lt ∙ sym (newest-below value (a + r.count) i rs lt)
     ] refl)
     (λ (le : a + r.count ≤ i).
     let none : value ≡ P.None = laid_at_behind i P.None (entry_of a r) le in
     elim (same r.value P.None) as (λ b. others b ≡ newest value (laid_runs (a + r.count) rs) i) [
       | true ↦ later ∙ sym (ap (λ x. newest x (laid_runs (a + r.count) rs) i) none)
-      | false ↦ ap (λ x. newest x (list_map granted (spans_in (a + r.count) rs)) i) none ∙ later ∙ sym (ap (λ x. newest x (laid_runs (a + r.count) rs) i) none)
+      | false ↦ ap (λ x. newest x (list_map granted (spans_in (a + r.count) rs)) i) none ∙ later
+          ∙ sym (ap (λ x. newest x (laid_runs (a + r.count) rs) i) none)
     ])
     (cases_lt i (a + r.count))
 
@@ -218,7 +235,8 @@ row-same rs words =
     let one = newest P.None (list_map granted (spans_in 0 rs)) in
     let other = newest P.None (laid_runs 0 rs) in
     let long = length-map-range_with_len one 0 words in
-    ext_get_or P.None (list_map one (range_with_len 0 words)) (list_map other (range_with_len 0 words)) (long ∙ sym (length-map-range_with_len other 0 words))
+    ext_get_or P.None (list_map one (range_with_len 0 words)) (list_map other (range_with_len 0 words)) (long
+    ∙ sym (length-map-range_with_len other 0 words))
     (λ i lt. get_or-map-range_with_len one 0 words i i P.None (omega (arith, long, lt)) (omega arith) ∙ spans-newest 0 i rs
     ∙ sym (get_or-map-range_with_len other 0 words i i P.None (omega (arith, long, lt)) (omega arith)))
 
@@ -227,7 +245,8 @@ abbrev InOrder : ℕ → ℕ → List Span → Type 0
 InOrder low high [] = low ≤ high
 InOrder low high (s ∷ row) = (low ≤ s.first) × (0 < s.count) × InOrder (s.first + s.count) high row
 
-in-order : (low a high : ℕ) (rs : List (Run Perm)) → low ≤ a → AllByRecursion (λ (r : Run Perm). 0 < r.count) rs → a + run_words rs ≤ high → InOrder low high (spans_in a rs)
+in-order : (low a high : ℕ) (rs : List (Run Perm)) → low ≤ a → AllByRecursion (λ (r : Run Perm). 0 < r.count) rs → a + run_words rs ≤ high
+    → InOrder low high (spans_in a rs)
 in-order low a high [] le some fits = omega (arith, le, fits)
 in-order low a high (r ∷ rs) le some fits =
     let words = run_words-cons r rs in
@@ -247,18 +266,21 @@ order-some low high [] o i lt = absurd (let q : ⊥ = omega (arith, lt) in q)
 order-some low high (s ∷ row) o zero lt = o.1
 order-some low high (s ∷ row) o (suc i) lt = order-some (s.first + s.count) high row o.2 i (omega (arith, lt))
 
-order-sorted : (low high : ℕ) (row : List Span) → InOrder low high row → (i : ℕ) → suc i < length row → (get_or row i no_span).first + (get_or row i no_span).count ≤ (get_or row (suc i) no_span).first
+order-sorted : (low high : ℕ) (row : List Span) → InOrder low high row → (i : ℕ) → suc i < length row
+    → (get_or row i no_span).first + (get_or row i no_span).count ≤ (get_or row (suc i) no_span).first
 order-sorted low high [] o i lt = absurd (let q : ⊥ = omega (arith, lt) in q)
 order-sorted low high (s ∷ []) o i lt = absurd (let q : ⊥ = omega (arith, lt) in q)
 order-sorted low high (s ∷ t ∷ row) o zero lt = o.2.0
 order-sorted low high (s ∷ t ∷ row) o (suc i) lt = order-sorted (s.first + s.count) high (t ∷ row) o.2 i (omega (arith, lt))
 
-order-inside : (low high : ℕ) (row : List Span) → InOrder low high row → (i : ℕ) → i < length row → (get_or row i no_span).first + (get_or row i no_span).count ≤ high
+order-inside : (low high : ℕ) (row : List Span) → InOrder low high row → (i : ℕ) → i < length row
+    → (get_or row i no_span).first + (get_or row i no_span).count ≤ high
 order-inside low high [] o i lt = absurd (let q : ⊥ = omega (arith, lt) in q)
 order-inside low high (s ∷ row) o zero lt = order-ends (s.first + s.count) high row o.2
 order-inside low high (s ∷ row) o (suc i) lt = order-inside (s.first + s.count) high row o.2 i (omega (arith, lt))
 
-pub row-fits : (rs : List (Run Perm)) (words : ℕ) → AllByRecursion (λ (r : Run Perm). 0 < r.count) rs → run_words rs ≤ words → IsRow words (spans_in 0 rs)
+pub row-fits : (rs : List (Run Perm)) (words : ℕ) → AllByRecursion (λ (r : Run Perm). 0 < r.count) rs → run_words rs ≤ words
+    → IsRow words (spans_in 0 rs)
 row-fits rs words some fits =
     let row = spans_in 0 rs in
     let o = in-order 0 0 words rs (omega arith) some (omega (arith, fits)) in
@@ -266,12 +288,14 @@ row-fits rs words some fits =
       some = order-some 0 words row o;
       sorted = λ i lt.
           let one : i + 1 ≡ suc i = omega arith in
-          subst (λ k. (get_or row i no_span).first + (get_or row i no_span).count ≤ (get_or row k no_span).first) (sym one) (order-sorted 0 words row o i (omega (arith, lt)));
+          subst (λ k. (get_or row i no_span).first + (get_or row i no_span).count ≤ (get_or row k no_span).first) (sym one)
+          (order-sorted 0 words row o i (omega (arith, lt)));
       inside = order-inside 0 words row o;
     }
 
 -- the spans of one more run
-pub spans-more : (a : ℕ) (rs : List (Run Perm)) (r : Run Perm) → spans_in a (rs ++ r ∷ []) ≡ spans_in a rs ++ spans_in (a + run_words rs) (r ∷ [])
+pub spans-more : (a : ℕ) (rs : List (Run Perm)) (r : Run Perm)
+    → spans_in a (rs ++ r ∷ []) ≡ spans_in a rs ++ spans_in (a + run_words rs) (r ∷ [])
 spans-more a [] r = let e : a ≡ a + 0 = omega arith in ap (λ k. spans_in k (r ∷ [])) e
 spans-more a (q ∷ rs) r =
     let words = run_words-cons q rs in

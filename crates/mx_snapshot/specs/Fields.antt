@@ -11,6 +11,7 @@ use Rattle.mx_words.specs.FirstFit.{Area, most_blocks}
 use Rattle.mx_words.specs.Hearing.{most_harts}
 use Rattle.mx_words.specs.Rights.{from_number}
 use Rattle.mx_words.specs.Runs.{Run, most_owner_runs}
+use Rattle.mx_words.specs.Limits.{most_upper, most_leaf, most_spill, most_quantum, most_snapshot_bytes, is_buffer}
 use Rattle.mx_manifest.specs.Forms.{is_within}
 use Rattle.mx_model.specs.declared.values.Frame.{Frame}
 use Rattle.mx_model.specs.declared.values.Gate.{Gate}
@@ -19,7 +20,8 @@ use Rattle.mx_model.specs.State.{most_modules}
 use Rattle.mx_machine.specs.declared.views.HartStatus.{HartStatus}
 use Rattle.mx_machine.specs.declared.views.HartStatus.TheVariants as V
 use Rattle.mx_snapshot.specs.Reader.{Taken, Took, Fails, Reader, ◌>>=◌, done, list_of, meant, number, number_of, piece, such, such_or}
-use Rattle.mx_snapshot.specs.Rules.{has_place, is_area, is_buffer, is_free, is_heard, is_new_name, is_next_block, is_next_owner, is_next_run, is_pc, is_ram, is_register}
+use Rattle.mx_snapshot.specs.Rules.{has_place, is_area, is_free, is_heard, is_new_name, is_next_block, is_next_owner, is_next_run, is_pc}
+use Rattle.mx_snapshot.specs.Rules.{is_ram, is_register}
 use Rattle.mx_snapshot.specs.Spelling.{sign}
 use Rattle.mx_snapshot.specs.Stored.{Head, Stored, StoredHart, StoredModule}
 
@@ -48,11 +50,11 @@ head_in = do
   first ← such_or 3 (bytes_eq sign) (piece 8)
   words ← such is_ram number
   kind ← meant kind_by (between 0 2)
-  upper ← between 0 4096
-  leaf ← between 0 262144
-  spill ← between 0 1048576
+  upper ← between 0 most_upper
+  leaf ← between 0 most_leaf
+  spill ← between 0 most_spill
   lookaside ← such is_buffer number
-  quantum ← between 1 1000000
+  quantum ← between 1 most_quantum
   modules ← between 1 most_modules
   harts ← between 1 most_harts
   turns ← such (is_within 0 (2 ^ 63 - 1)) (number_of 8)
@@ -167,11 +169,7 @@ to_the_end bytes (Took a after) =
     if nat_lt after (length bytes) then Fails after 5 else Took a after
 to_the_end bytes (Fails at fault) = Fails at fault
 
--- how many bytes a snapshot has at most that is read
-abbrev pub most_bytes : ℕ
-most_bytes = 1073741824
-
 -- what is stored in the bytes of a file; one of more bytes has fault 1 at its first
 unfoldable pub stored_in : List ℕ → Taken Stored
 stored_in bytes =
-    if nat_lt most_bytes (length bytes) then Fails 0 1 else to_the_end bytes (fields_in bytes 0)
+    if nat_lt most_snapshot_bytes (length bytes) then Fails 0 1 else to_the_end bytes (fields_in bytes 0)

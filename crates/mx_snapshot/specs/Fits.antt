@@ -5,13 +5,15 @@ use Rattle.std.specs.List.{AllByRecursion}
 use Rattle.mx_words.specs.FirstFit.{most_blocks}
 use Rattle.mx_words.specs.Hearing.{most_harts}
 use Rattle.mx_words.specs.Runs.{Run, most_owner_runs}
+use Rattle.mx_words.specs.Limits.{is_buffer, most_quantum, most_module_name}
 use Rattle.mx_table.specs.Tables.{IsLimit}
 use Rattle.mx_manifest.specs.InRange.{IsBetween}
 use Rattle.mx_model.specs.declared.values.Frame.{Frame}
 use Rattle.mx_model.specs.declared.values.Gate.{Gate}
 use Rattle.mx_model.specs.Gates.{most_frames, most_gates}
 use Rattle.mx_model.specs.State.{most_modules}
-use Rattle.mx_snapshot.specs.Rules.{has_place, is_area, is_buffer, is_free, is_heard, is_new_name, is_next_block, is_next_owner, is_next_run, is_pc, is_ram, is_register}
+use Rattle.mx_snapshot.specs.Rules.{has_place, is_area, is_free, is_heard, is_new_name, is_next_block, is_next_owner, is_next_run, is_pc}
+use Rattle.mx_snapshot.specs.Rules.{is_ram, is_register}
 use Rattle.mx_snapshot.specs.Stored.{Head, Stored, StoredHart, StoredModule}
 
 -- bytes, and numbers of 32 bits
@@ -30,13 +32,13 @@ pub record IsHead (h : Head) : Type 0 where
   pub words : is_ram h.words ≡ true
   pub limit : IsLimit h.limit
   pub lookaside : is_buffer h.lookaside ≡ true
-  pub quantum : IsBetween 1 1000000 h.quantum
+  pub quantum : IsBetween 1 most_quantum h.quantum
   pub modules : IsBetween 1 most_modules h.modules
   pub harts : IsBetween 1 most_harts h.harts
   pub turns : h.turns ≤ 2 ^ 63 - 1
 
 pub record IsStoredModule (h : Head) (before : List StoredModule) (m : StoredModule) : Type 0 where
-  pub name_length : IsBetween 1 32 (length m.name)
+  pub name_length : IsBetween 1 most_module_name (length m.name)
   pub name : is_new_name before m.name ≡ true
   pub heap : is_area h.words m.home.heap.first m.home.heap.count ≡ true
   pub stack : is_area h.words m.home.stack.first (m.home.stack.words * h.harts) ≡ true

@@ -4,7 +4,7 @@ use Rattle.std.specs.Prelude.{◌≡◌, ℕ, List, length, slice_get, Some}
 use Rattle.std.specs.Prelude.{map as list_map}
 use Rattle.mx_words.specs.declared.tables.Kind.{Kind}
 use Rattle.mx_words.specs.declared.tables.Need.{Need}
-use Rattle.mx_words.specs.Limits.{most_modules, IsBuffer}
+use Rattle.mx_words.specs.Limits.{most_modules, IsBuffer, most_quantum}
 use Rattle.mx_table.specs.Tables.{IsLimit}
 use Rattle.mx_manifest.specs.declared.parts.ModulePlan.{ModulePlan}
 use Rattle.mx_manifest.specs.InRange.{Each, IsBetween, IsName}
@@ -35,7 +35,7 @@ kept_of plan = record {
 pub record IsKept (kept : KeptPlan) : Type 0 where
   pub limit : IsLimit kept.limit
   pub lookaside : IsBuffer kept.lookaside
-  pub quantum : IsBetween 1 1000000 kept.quantum
+  pub quantum : IsBetween 1 most_quantum kept.quantum
   pub count : IsBetween 1 most_modules (length kept.names)
   pub names : Each IsName kept.names
   pub apart : (i j : ℕ) (name : List ℕ) → slice_get kept.names i ≡ Some name →

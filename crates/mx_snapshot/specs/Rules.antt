@@ -1,13 +1,14 @@
 -- The ranges of a snapshot's fields, by what stands before them.
 -- The rules: docs/COMMANDS.md, "The snapshot".
-use Rattle.std.specs.Prelude.{ℕ, ◌+◌, ◌/◌, ◌%◌, ◌^◌, Bool, true, false, not, nat_le, nat_lt, ◌==◌, ◌&&◌, ◌||◌, List, length, if◌then◌else◌, None, sum_by}
+use Rattle.std.specs.Prelude.{ℕ, ◌+◌, ◌*◌, ◌/◌, ◌%◌, ◌^◌, Bool, true, false, not, nat_le, nat_lt, ◌==◌, ◌&&◌, ◌||◌, List, length}
+use Rattle.std.specs.Prelude.{if◌then◌else◌, None, sum_by}
 use Rattle.std.specs.List.{last_or, list_all, list_any}
 use Rattle.std.specs.Option.{option_map_or}
 use Rattle.std.specs.Str.{bytes_eq}
 use Rattle.mx_words.specs.declared.perm.Perm.{Perm}
 use Rattle.mx_words.specs.Announced.{is_announced}
 use Rattle.mx_words.specs.FirstFit.{Area}
-use Rattle.mx_words.specs.Limits.{most_kept}
+use Rattle.mx_words.specs.Limits.{least_ram_kib}
 use Rattle.mx_words.specs.Ranges.{most_words}
 use Rattle.mx_words.specs.Rights.{same}
 use Rattle.mx_words.specs.Runs.{Run}
@@ -20,11 +21,7 @@ use Rattle.mx_snapshot.specs.Stored.{StoredModule}
 
 -- the words of a RAM of 64 to 65536 KiB, a multiple of 4 KiB
 abbrev pub is_ram : ℕ → Bool
-is_ram words = is_within 16384 most_words words && (words % 1024 == 0)
-
--- the sizes of a lookaside buffer
-abbrev pub is_buffer : ℕ → Bool
-is_buffer n = n == 8 || n == 32 || n == most_kept
+is_ram words = is_within (256 * least_ram_kib) most_words words && (words % 1024 == 0)
 
 -- an area lies in a RAM of `words` words, and one of no words is at word 0
 abbrev pub is_area : ℕ → ℕ → ℕ → Bool
@@ -80,6 +77,7 @@ is_free words before domain word = nat_lt word words && not (has_gate before dom
 abbrev pub is_pc : ℕ → Bool
 is_pc pc = pc % 4 == 0
 
+-- whether a hart waits on a call that it announced
 abbrev pub is_waiting : HartStatus → Bool
 is_waiting V.Running = false
 is_waiting V.Waiting = true

@@ -1,7 +1,7 @@
 //! What a run keeps of a plan.
 
 ghost use Rattle.std.specs.Prelude.{◌≡◌, ◌<◌, length, map, slice_get, Some, IfOk};
-ghost use Rattle.mx_words.specs.Limits.{most_modules, IsBuffer};
+ghost use Rattle.mx_words.specs.Limits.{most_modules, most_quantum, IsBuffer};
 ghost use Rattle.mx_table.specs.Tables.{IsLimit};
 ghost use Rattle.mx_manifest.specs.declared.parts.ModulePlan.{ModulePlan};
 ghost use Rattle.mx_manifest.specs.InRange.{IsBetween, IsName};
@@ -12,7 +12,8 @@ use mx_words::{Kind, Need, NoMemory};
 use std::alloc::Global;
 use std::marker::Model;
 
-/// What a run keeps of a manifest's plan, and what a snapshot holds beside the state of a machine: the kind of tables and their
+/// What a run keeps of a manifest's plan, and what a snapshot holds beside the state of a machine: the kind of tables
+/// and their
 /// limit, the size of the lookaside buffer, the quantum, and the modules' names.
 #[derive(Drop)]
 pub struct Kept {
@@ -107,7 +108,7 @@ impl Kept {
     /// The turns that a hart has in a row, 1 to 1000000.
     pub fn quantum(&self) -> u32
         ensures value { result ≡ self.now.quantum }
-        ensures range { IsBetween 1 1000000 result }
+        ensures range { IsBetween 1 most_quantum result }
     {
         self.quantum
     }
@@ -120,7 +121,8 @@ impl Kept {
         self.names.len() as u32
     }
 
-    /// The name of the module at place `i`, counted from 0 and below `modules`; its domain is `i + 1`. It has 1 to 32 bytes out of a to
+    /// The name of the module at place `i`, counted from 0 and below `modules`; its domain is `i + 1`. It has 1 to 32
+    /// bytes out of a to
     /// z, 0 to 9 and _.
     pub fn name(&self, i: u32) -> &str
         requires { i < length self.now.names }

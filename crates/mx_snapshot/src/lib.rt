@@ -1,4 +1,5 @@
-//! Snapshots: what two states share that are the same but for exit codes and caches, what is kept of a plan beside a state, and a
+//! Snapshots: what two states share that are the same but for exit codes and caches, what is kept of a plan beside a
+//! state, and a
 //! snapshot written.
 #![tactic(auto)]
 

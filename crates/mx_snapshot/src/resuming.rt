@@ -20,7 +20,8 @@ ghost use Rattle.mx_snapshot.specs.Rules.{is_ram, run_words};
 ghost use Rattle.mx_snapshot.specs.Same.{AreSame};
 ghost use Rattle.mx_snapshot.specs.Stored.{Stored, stored_of};
 
-/// Rows of permission runs: the spans of a row, in which runs without rights are left out, give the map that the runs laid over
+/// Rows of permission runs: the spans of a row, in which runs without rights are left out, give the map that the runs
+/// laid over
 /// their words give, and they are the spans of a row where no run is empty and all lie in RAM.
 pub fn rows_are_maps()
     ensures same { (runs : List (Run Perm)) (words : ℕ) →
@@ -29,7 +30,8 @@ pub fn rows_are_maps()
         run_words runs ≤ words → IsRow words (spans_in 0 runs) }
 {}
 
-/// Runs of owner that are given one after another never make more maximal runs than they are, and one more for the words behind
+/// Runs of owner that are given one after another never make more maximal runs than they are, and one more for the
+/// words behind
 /// them.
 pub fn owners_stay_few()
     ensures part { (runs : List (Run ℕ)) (words : ℕ) → run_words runs ≤ words →
@@ -38,7 +40,8 @@ pub fn owners_stay_few()
         owner_runs (owners (laid_runs 0 runs) words) ≤ length runs }
 {}
 
-/// The state of each valid snapshot is valid, with one list of grants for each module, and it is one of the plan that the snapshot
+/// The state of each valid snapshot is valid, with one list of grants for each module, and it is one of the plan that
+/// the snapshot
 /// stores, which is in its ranges.
 pub fn snapshots_are_valid()
     ensures flat { (s : Stored) → IsStored s → IsFlat (flat (state_of s)) }
@@ -47,7 +50,8 @@ pub fn snapshots_are_valid()
     ensures plan { (s : Stored) → IsOfPlan (plan_of s) (flat (state_of s)) }
 {}
 
-/// With the parts of each valid snapshot a checker, a supervisor and a machine may go on, and the machine is the snapshot's state.
+/// With the parts of each valid snapshot a checker, a supervisor and a machine may go on, and the machine is the
+/// snapshot's state.
 pub fn snapshots_go_on()
     ensures flights { (s : Stored) → IsStored s →
         All (IsResumable (length s.harts) s.head.words) (flights_in s) }
@@ -76,15 +80,18 @@ pub fn states_are_given_back()
         plan_of (stored_of kept f) ≡ kept }
 {}
 
-/// A snapshot of a valid state, of a plan in its ranges, is valid, in a RAM of 64 to 65536 KiB, a multiple of 4, and after at most
+/// A snapshot of a valid state, of a plan in its ranges, is valid, in a RAM of 64 to 65536 KiB, a multiple of 4, and
+/// after at most
 /// 2^63 - 1 turns.
 pub fn saved_states_are_valid()
     ensures { (kept : KeptPlan) (f : Flat) → IsKept kept → IsOfPlan kept f → IsFlat f →
         is_ram f.core.size ≡ true → f.core.turns ≤ 2 ^ 63 - 1 → IsStored (stored_of kept f) }
 {}
 
-/// A run from a valid state that is stopped after n turns, saved, and taken up from the snapshot's state for m turns more is the run
-/// of n + m turns: the flat states after are the same, and console bytes and notes of the two parts together are those of the
+/// A run from a valid state that is stopped after n turns, saved, and taken up from the snapshot's state for m turns
+/// more is the run
+/// of n + m turns: the flat states after are the same, and console bytes and notes of the two parts together are those
+/// of the
 /// whole.
 pub fn resumed_runs()
     ensures same { (p : Schedule) (n m : ℕ) (s : State) (kept : KeptPlan) → IsFlat (flat s) →

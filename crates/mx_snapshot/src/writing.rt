@@ -19,9 +19,12 @@ use mx_tail::Tail;
 /// The first eight bytes of a snapshot, by which it is told from RAM's bytes: MXSN, and the version 1.
 const SIGN: [u8; 8] = [0x4D, 0x58, 0x53, 0x4E, 1, 0, 0, 0];
 
-/// Writes a snapshot of a machine: all but exit codes, what caches keep and count, and what a run has shown and told (docs/COMMANDS.md,
-/// "The snapshot"). Quantum and names are those of the plan; kind, limit and size of the lookaside buffers are the machine's, and the
-/// plan has the same. RAM's bytes leave in one call, all before them in writes of 4096 bytes. `Failed` comes only where the sink
+/// Writes a snapshot of a machine: all but exit codes, what caches keep and count, and what a run has shown and told
+/// (docs/COMMANDS.md,
+/// "The snapshot"). Quantum and names are those of the plan; kind, limit and size of the lookaside buffers are the
+/// machine's, and the
+/// plan has the same. RAM's bytes leave in one call, all before them in writes of 4096 bytes. `Failed` comes only where
+/// the sink
 /// failed, which then holds a prefix of the snapshot. Takes no memory.
 pub fn write_snapshot<R: Sink>(
     sink: &mut R,

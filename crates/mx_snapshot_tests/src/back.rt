@@ -70,8 +70,10 @@ fn fault_of(alloc: Global, blob: &Blob) -> Option<(u64, u32)> {
     }
 }
 
-/// A change of four bytes at a place: the number that they then hold, and place and number of the fault, 0 and 0 where there is none.
-/// The faults are those that a reader in another language finds, which was made from the rule in docs/COMMANDS.md alone.
+/// A change of four bytes at a place: the number that they then hold, and place and number of the fault, 0 and 0 where
+/// there is none.
+/// The faults are those that a reader in another language finds, which was made from the rule in docs/COMMANDS.md
+/// alone.
 static CHANGES: [(usize, u32, u64, u32); 72] = [
     (0, 4096, 0, 3),
     (14, 2, 12, 4),
@@ -147,7 +149,8 @@ static CHANGES: [(usize, u32, u64, u32); 72] = [
     (903, 9, 901, 4),
 ];
 
-/// The snapshot of the waiting harts has a head of 52 bytes, three modules, six runs of owner, two gates and four harts; RAM begins at
+/// The snapshot of the waiting harts has a head of 52 bytes, three modules, six runs of owner, two gates and four
+/// harts; RAM begins at
 /// 909.
 #[test]
 fn a_damaged_field_has_its_fault(rt: HostRuntime) -> Result<(), Fail> {

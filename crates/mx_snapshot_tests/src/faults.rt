@@ -6,7 +6,8 @@ use mx_boot_tests::manifests::THREE_WORDS;
 use std::alloc::Global;
 use std::test::Fail;
 
-/// How many bytes of a snapshot a sink got that has room for so many, and whose call of that number fails, where it then failed and the
+/// How many bytes of a snapshot a sink got that has room for so many, and whose call of that number fails, where it
+/// then failed and the
 /// bytes are those with which the whole snapshot begins.
 fn stopped(alloc: Global, text: &str, turns: u32, room: u32, failing: u64) -> Option<usize> {
     let whole = save_after(alloc, text, &[0], turns, 100000, 0)?;
@@ -18,7 +19,8 @@ fn stopped(alloc: Global, text: &str, turns: u32, room: u32, failing: u64) -> Op
     Some(bytes.len())
 }
 
-/// The head of the snapshot of three words is in its first 52 bytes, its one module from 52 to 97, of which the runs begin at 89; RAM
+/// The head of the snapshot of three words is in its first 52 bytes, its one module from 52 to 97, of which the runs
+/// begin at 89; RAM
 /// begins at 269. All before RAM leaves in one call, and RAM in the next.
 #[test]
 fn a_sink_that_fails_holds_a_prefix(rt: HostRuntime) -> Result<(), Fail> {
@@ -39,7 +41,8 @@ fn a_sink_that_fails_holds_a_prefix(rt: HostRuntime) -> Result<(), Fail> {
     Ok(())
 }
 
-/// Before RAM's bytes, 33074 of 98610, there are eight writes of 4096 bytes and one of the rest; the runs of owner begin at 154.
+/// Before RAM's bytes, 33074 of 98610, there are eight writes of 4096 bytes and one of the rest; the runs of owner
+/// begin at 154.
 #[test]
 fn a_sink_that_fails_inside_the_runs_of_owner_holds_a_prefix(rt: HostRuntime) -> Result<(), Fail> {
     let cases = [

@@ -81,7 +81,8 @@ pub struct Saved {
     pub whole: bool,
 }
 
-/// Writes a snapshot of a machine to a sink with room for so many bytes, whose call of that number fails, if it isn't 0.
+/// Writes a snapshot of a machine to a sink with room for so many bytes, whose call of that number fails, if it isn't
+/// 0.
 fn save(alloc: Global, kept: &Kept, machine: &AnyMachine, room: u32, failing: u64) -> Option<Saved>
     requires { IsOfPlan kept.now (meaning machine.now) }
 {
@@ -93,7 +94,8 @@ fn save(alloc: Global, kept: &Kept, machine: &AnyMachine, room: u32, failing: u6
     Some(Saved { sink, whole })
 }
 
-/// Writes a snapshot of the machine of a manifest after so many turns, of these harts one after another and again, to such a sink.
+/// Writes a snapshot of the machine of a manifest after so many turns, of these harts one after another and again, to
+/// such a sink.
 /// `None` where the manifest has a fault, or memory is refused.
 pub fn save_after(
     alloc: Global,

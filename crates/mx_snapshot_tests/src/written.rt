@@ -1,4 +1,5 @@
-//! Snapshots beside those of a writer in another language, which was made from the rule in docs/COMMANDS.md alone: the first byte by
+//! Snapshots beside those of a writer in another language, which was made from the rule in docs/COMMANDS.md alone: the
+//! first byte by
 //! byte, the others by their length and their SHA-256.
 
 use crate::plans::{BLOCKS, CIRCLE, OWNERS, WAITING, gates};
@@ -79,7 +80,8 @@ fn told(alloc: Global, text: &str, harts: &[u32], turns: u32) -> (usize, [u8; 32
     }
 }
 
-/// Two harts wait on calls, of which one was heard by two harts and one by one; a third is halted in a module that its fault killed.
+/// Two harts wait on calls, of which one was heard by two harts and one by one; a third is halted in a module that its
+/// fault killed.
 #[test]
 fn waiting_harts_are_written_with_who_has_heard_them(rt: HostRuntime) -> Result<(), Fail> {
     let harts = [2, 0, 0, 0, 1, 1, 1, 3];

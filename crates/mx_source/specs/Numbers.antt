@@ -1,6 +1,7 @@
 -- Numbers as a source writes them.
 -- The rules: docs/COMMANDS.md, "The source".
-use Rattle.std.specs.Prelude.{ℕ, ◌+◌, ◌-◌, ◌*◌, ◌%◌, ◌^◌, ◌==◌, nat_eq, nat_lt, nat_le, min, Bool, true, false, not, ◌&&◌, ◌||◌, List, length, drop, fold, Option, Some, None, option_map, codes, if◌then◌else◌}
+use Rattle.std.specs.Prelude.{ℕ, ◌+◌, ◌-◌, ◌*◌, ◌%◌, ◌^◌, ◌==◌, nat_eq, nat_lt, nat_le, min, Bool, true, false, not, ◌&&◌, ◌||◌, List}
+use Rattle.std.specs.Prelude.{length, drop, fold, Option, Some, None, option_map, codes, if◌then◌else◌}
 use Rattle.std.specs.Char.{is_ascii_digit, is_ascii_hexdigit}
 use Rattle.std.specs.List.{list_all, starts_with}
 use Rattle.mx_source.specs.declared.number.Number.{Number}

@@ -1,6 +1,7 @@
 //! The characters of a source by their bytes, blanks, and marks outside quotes.
 ghost use Rattle.std.specs.Prelude.{◌≡◌, ◌≤◌, length};
-ghost use Rattle.mx_source.specs.Characters.{is_blank, begins_name, is_in_name, is_in_word, is_printed, trim_start, trim_end, trim, quotes_after, is_mark, mark_place, without_comment};
+ghost use Rattle.mx_source.specs.Characters.{is_blank, begins_name, is_in_name, is_in_word, is_printed, trim_start};
+ghost use Rattle.mx_source.specs.Characters.{trim_end, trim, quotes_after, is_mark, mark_place, without_comment};
 ghost use Rattle.mx_source.specs.declared.characters.Quotes.TheVariants.{Outside};
 
 /// Where a character stands: outside quotes, inside them, or inside them right after a `\`.

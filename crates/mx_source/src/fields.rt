@@ -1,7 +1,10 @@
 //! What the operands of an instruction say.
 ghost use Rattle.std.specs.Prelude.{◌≡◌, option_map, IfSome};
 ghost use Rattle.mx_source.specs.Operands.{pieces_of};
-ghost use Rattle.mx_source.specs.Fields.{value_of, label_of, given_of, number_fields, value_fields, label_fields, branch_fields, load_fields, store_fields, immediate_fields, register_fields, fence_fields, no_fields, fields_of, imm_range, range_of, word_range, byte_range, address_range, no_value, Given};
+ghost use Rattle.mx_source.specs.Fields.{value_of, label_of, given_of, number_fields, value_fields, label_fields};
+ghost use Rattle.mx_source.specs.Fields.{branch_fields, load_fields, store_fields, immediate_fields, register_fields};
+ghost use Rattle.mx_source.specs.Fields.{fence_fields, no_fields, fields_of, imm_range, range_of, word_range};
+ghost use Rattle.mx_source.specs.Fields.{byte_range, address_range, no_value, Given};
 ghost use Rattle.mx_source.specs.Numbers.{plain_number};
 ghost use Rattle.mx_source.specs.FieldViews.{value_view, fields_view, AreRegisters};
 
@@ -101,7 +104,8 @@ fn number_fields(operands: &[u8]) -> Option<Fields<'_>>
     })
 }
 
-/// `rd, T` and `rd, v`: a number or a label. `None` exactly where there aren't two operands, the first one a register and
+/// `rd, T` and `rd, v`: a number or a label. `None` exactly where there aren't two operands, the first one a register
+/// and
 /// the second one a number or a name.
 #[tactic(auto, unfolding(crate::specs::Fields::value_fields))]
 pub fn value_fields(operands: &[u8]) -> Option<Fields<'_>>
@@ -119,7 +123,8 @@ pub fn value_fields(operands: &[u8]) -> Option<Fields<'_>>
     })
 }
 
-/// `rd, L`: a label. `None` exactly where there aren't two operands, the first one a register and the second one a name.
+/// `rd, L`: a label. `None` exactly where there aren't two operands, the first one a register and the second one a
+/// name.
 #[tactic(auto, unfolding(crate::specs::Fields::label_fields))]
 pub fn label_fields(operands: &[u8]) -> Option<Fields<'_>>
     ensures fields { option_map fields_view result ≡ label_fields (pieces_of operands.now) }

@@ -1,4 +1,5 @@
-//! The source of a program for RISC-V with 32 bits: how each line is split, and what its statement and operands say. Nothing
+//! The source of a program for RISC-V with 32 bits: how each line is split, and what its statement and operands say.
+//! Nothing
 //! here takes memory; `mx_asm` puts the lines together.
 #![tactic(auto)]
 

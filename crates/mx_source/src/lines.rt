@@ -3,7 +3,8 @@ ghost use Rattle.std.specs.Prelude.{◌≡◌, ◌≤◌, length};
 ghost use Rattle.std.specs.List.{list_all, prefix_len};
 ghost use Rattle.mx_source.specs.Characters.{is_in_name, is_in_word, trim};
 ghost use Rattle.mx_source.specs.Operands.{is_operand, pieces_of};
-ghost use Rattle.mx_source.specs.Lines.{statement_of, is_word, line_with_word, line_with_label, line_with_name, line_by_colon, trimmed_line, line_of, other_form};
+ghost use Rattle.mx_source.specs.Lines.{statement_of, is_word, line_with_word, line_with_label, line_with_name};
+ghost use Rattle.mx_source.specs.Lines.{line_by_colon, trimmed_line, line_of, other_form};
 ghost use Rattle.mx_source.specs.LineViews.{line_view, label_view, statement_view, IsShort, AreShort};
 
 use crate::characters::{is_in_name, is_in_word, trim, trim_start, without_comment};

@@ -1,7 +1,8 @@
 //! The words with which statements begin, each beside its statement.
 ghost use Rattle.std.specs.Prelude.{◌≡◌, find};
 ghost use Rattle.std.specs.Str.{bytes_eq};
-ghost use Rattle.mx_source.specs.Mnemonics.{cond_name, load_name, store_name, imm_op_name, reg_op_name, form_name, keyword_name, keyword_of};
+ghost use Rattle.mx_source.specs.Mnemonics.{cond_name, load_name, store_name, imm_op_name, reg_op_name, form_name};
+ghost use Rattle.mx_source.specs.Mnemonics.{keyword_name, keyword_of};
 
 use mx_isa::{Cond, ImmOp, LoadWidth, RegOp, StoreWidth};
 

@@ -2,9 +2,12 @@
 ghost use Rattle.std.specs.Prelude.{◌≡◌, ◌≤◌, ◌<◌, ◌^◌, ◌+◌, ◌-◌, ◌%◌, length, fold, IfSome, nat_lt, if◌then◌else◌};
 ghost use Rattle.std.specs.Char.{is_ascii_digit, is_ascii_hexdigit};
 ghost use Rattle.std.specs.List.{list_all};
-ghost use Rattle.mx_source.specs.Numbers.{decimal_step, hexadecimal_step, decimal_of, hexadecimal_of, plain_number, negative_number, number_of, fits, number_bits, difference, number_range, even_range};
+ghost use Rattle.mx_source.specs.Numbers.{decimal_step, hexadecimal_step, decimal_of, hexadecimal_of, plain_number};
+ghost use Rattle.mx_source.specs.Numbers.{negative_number, number_of, fits, number_bits, difference, number_range};
+ghost use Rattle.mx_source.specs.Numbers.{even_range};
 
-/// A number: whether it stands after a `-`, and its digits' value. No statement takes a number of 2^33 or more; all of them
+/// A number: whether it stands after a `-`, and its digits' value. No statement takes a number of 2^33 or more; all of
+/// them
 /// count as 2^33.
 #[derive(Clone, Copy)]
 pub struct Number {
@@ -110,7 +113,8 @@ fn plain_number(magnitude: u64) -> Number
     }
 }
 
-/// The number that a text is: `-` and decimal digits, `0x` and 1 to 8 hexadecimal ones, or decimal ones, of which there is
+/// The number that a text is: `-` and decimal digits, `0x` and 1 to 8 hexadecimal ones, or decimal ones, of which there
+/// is
 /// at least one. `None` exactly where it is none of these.
 #[tactic(auto, unfolding(crate::specs::Numbers::number_of))]
 pub fn read_number(text: &[u8]) -> Option<Number>

@@ -3,11 +3,13 @@ ghost use Rattle.std.specs.Prelude.{◌≡◌, ◌≤◌, ◌+◌, length, map, 
 ghost use Rattle.std.specs.Iterator.{YieldsFirstRef, item_count};
 ghost use Rattle.mx_source.specs.Characters.{trim};
 ghost use Rattle.mx_source.specs.Operands.{pieces_of, single_of, pair_of, triple_of};
-ghost use Rattle.mx_source.specs.OperandViews.{later_parts, pieces_in, pieces_left, single_view, pair_view, triple_view};
+ghost use Rattle.mx_source.specs.OperandViews.{later_parts, pieces_in, pieces_left, single_view, pair_view};
+ghost use Rattle.mx_source.specs.OperandViews.{triple_view};
 
 use crate::characters::{mark_place, trim};
 
-/// The operands that are left of a statement: the parts of a text between commas outside quotes, none where there is no text.
+/// The operands that are left of a statement: the parts of a text between commas outside quotes, none where there is no
+/// text.
 #[derive(Clone, Copy)]
 pub struct Pieces<'a> {
     /// The text of the operands that are left, none where there are none.

@@ -1,5 +1,6 @@
 -- The range of an announced call is empty or lies in RAM.
-use Rattle.std.proofs.Common.{◌≡◌, ℕ, ◌+◌, ◌-◌, ◌*◌, ◌/◌, ◌%◌, ◌≤◌, Bool, true, false, ◌==◌, ◌&&◌, nat_lt, nat_le, if◌then◌else◌, inl, inr, refl, arith, Some, None}
+use Rattle.std.proofs.Common.{◌≡◌, ℕ, ◌+◌, ◌-◌, ◌*◌, ◌/◌, ◌%◌, ◌≤◌, Bool, true, false, ◌==◌, ◌&&◌, nat_lt, nat_le, if◌then◌else◌, inl, inr}
+use Rattle.std.proofs.Common.{refl, arith, Some, None}
 use Rattle.std.specs.Prelude.{unwrap_or}
 use Rattle.std.proofs.lemmas.Bool.{leb-true, eqb-true}
 use Rattle.mx_words.specs.Announced.{names_range}
@@ -33,15 +34,18 @@ IsIn words r = IsWithin r.0 r.1 words
 
 words-within : (address size words : ℕ) → IsIn words (range_words address size words)
 words-within address size words =
-    elim (is_range address size words) as (λ b. is_range address size words ≡ b → IsIn words (unwrap_or (if b then Some ((address - ram_base) / 4, (size + 3) / 4) else None) (0, 0))) [
-      | true ↦ λ e. let p = are-in address size words e in let a = p.aligned in let b = p.low in let d = p.high in inr (omega (arith, a, b, d))
+    elim (is_range address size words) as (λ b. is_range address size words ≡ b
+    → IsIn words (unwrap_or (if b then Some ((address - ram_base) / 4, (size + 3) / 4) else None) (0, 0))) [
+      | true ↦ λ e. let p = are-in address size words e in let a = p.aligned in let b = p.low in let d = p.high in
+          inr (omega (arith, a, b, d))
       | false ↦ λ e. inl refl
     ] refl
 
 pub range-within : (p : Parts) (call : Call) → AreJoined p → IsIn p.size (range_of p call)
 range-within p call joined =
     let heap = (heap_at p.heaps call.domain).area in
-    elim (names_range call.number) as (λ b. IsIn p.size (if b then range_words (arg call 0) (arg call 1) p.size else (heap.first, heap.count))) [
+    elim (names_range call.number) as (λ b. IsIn p.size (if b then range_words (arg call 0) (arg call 1) p.size else
+    (heap.first, heap.count))) [
       | true ↦ words-within (arg call 0) (arg call 1) p.size
       | false ↦ inr (joined.areas call.domain)
     ]

@@ -54,8 +54,18 @@ sound-ram p ram sound e = record {
 }
 
 -- an answer with no effect, as every refusal
-pub told-rest : (rest : Core) (p : Parts) (n : ℕ) (a : Answer) (s : Served) → a ≡ plain n → s ≡ answers (core_of rest p) n → IsServed rest p p [] a s
-told-rest rest p n a s ea es = rw (ea, es) (record { core = refl; maps = refl; owners = refl; console = refl; a0 = refl; a1 = refl; stop = refl })
+pub told-rest : (rest : Core) (p : Parts) (n : ℕ) (a : Answer) (s : Served) → a ≡ plain n → s ≡ answers (core_of rest p) n
+    → IsServed rest p p [] a s
+told-rest rest p n a s ea es = rw (ea, es) (record {
+  core = refl;
+  maps = refl;
+  owners = refl;
+  console = refl;
+  a0 = refl;
+  a1 = refl;
+  stop =
+      refl;
+})
 
 pub told : (row : Reads → Core → Call → Served) (call : Call) (p : Parts) (n : ℕ) (a : Answer) → IsSound p → a ≡ plain n →
     ((rest : Core) → row_on row call p rest ≡ answers (core_of rest p) n) → Meets row call (kept_at p.harts call.hart).flight p p [] a
@@ -68,23 +78,28 @@ told row call p n a sound ea es = record {
 }
 
 pub refuses : (row : Reads → Core → Call → Served) (call : Call) (p : Parts) (n : ℕ) (a : Answer) → IsSound p → a ≡ refusal n →
-    ((rest : Core) → row_on row call p rest ≡ answers (core_of rest p) (code n)) → Meets row call (kept_at p.harts call.hart).flight p p [] a
+    ((rest : Core) → row_on row call p rest ≡ answers (core_of rest p) (code n))
+    → Meets row call (kept_at p.harts call.hart).flight p p [] a
 refuses row call p n a sound ea es = told row call p (code n) a sound ea es
 
 -- the same of parts that are those from before
-pub refuses-after : (row : Reads → Core → Call → Served) (call : Call) (p q : Parts) (n : ℕ) (a : Answer) → IsSound p → q ≡ p → a ≡ refusal n →
-    ((rest : Core) → row_on row call p rest ≡ answers (core_of rest p) (code n)) → Meets row call (kept_at p.harts call.hart).flight p q [] a
+pub refuses-after : (row : Reads → Core → Call → Served) (call : Call) (p q : Parts) (n : ℕ) (a : Answer) → IsSound p → q ≡ p
+    → a ≡ refusal n →
+    ((rest : Core) → row_on row call p rest ≡ answers (core_of rest p) (code n))
+    → Meets row call (kept_at p.harts call.hart).flight p q [] a
 refuses-after row call p q n a sound same ea es =
     subst (λ (q : Parts). Meets row call (kept_at p.harts call.hart).flight p q [] a) (sym same) (refuses row call p n a sound ea es)
 
 -- the same, where no console bytes stand
-pub told-bytes : (row : Reads → Core → Call → Served) (call : Call) (p : Parts) (n : ℕ) (bytes : List ℕ) (a : Answer) → IsSound p → bytes ≡ [] → a ≡ plain n →
+pub told-bytes : (row : Reads → Core → Call → Served) (call : Call) (p : Parts) (n : ℕ) (bytes : List ℕ) (a : Answer) → IsSound p
+    → bytes ≡ [] → a ≡ plain n →
     ((rest : Core) → row_on row call p rest ≡ answers (core_of rest p) n) → Meets row call (kept_at p.harts call.hart).flight p p bytes a
 told-bytes row call p n bytes a sound none ea es =
     subst (λ (b : List ℕ). Meets row call (kept_at p.harts call.hart).flight p p b a) (sym none) (told row call p n a sound ea es)
 
 -- looks alone, or nothing but what the checker keeps of the harts
-pub harts-alone : (row : Reads → Core → Call → Served) (call : Call) (p q : Parts) (bytes : List ℕ) (a : Answer) → IsSound p → q ≡ record p { harts = q.harts } →
+pub harts-alone : (row : Reads → Core → Call → Served) (call : Call) (p q : Parts) (bytes : List ℕ) (a : Answer) → IsSound p
+    → q ≡ record p { harts = q.harts } →
     KeepsHarts call (kept_at p.harts call.hart).flight p.harts q.harts → (is_refusal a ≡ true → bytes ≡ []) →
     ServesAs row call p q bytes a → Meets row call (kept_at p.harts call.hart).flight p q bytes a
 harts-alone row call p q bytes a sound same keeps none served = record {
@@ -97,7 +112,8 @@ harts-alone row call p q bytes a sound same keeps none served = record {
 }
 
 -- an answer after looks alone
-pub looks-served : (rest : Core) (p q : Parts) (n : ℕ) (bytes : List ℕ) (s : Served) → q ≡ record p { harts = q.harts } → s ≡ answers (core_of rest q) n → bytes ≡ [] →
+pub looks-served : (rest : Core) (p q : Parts) (n : ℕ) (bytes : List ℕ) (s : Served) → q ≡ record p { harts = q.harts }
+    → s ≡ answers (core_of rest q) n → bytes ≡ [] →
     IsServed rest p q bytes (plain n) s
 looks-served rest p q n bytes s same es none = rw (es, none) (record {
   core = refl;
@@ -130,18 +146,21 @@ small-answer a n e few is =
     omega (arith, big, few)
 
 -- a call that is done: its answer is no refusal
-pub done : (row : Reads → Core → Call → Served) (call : Call) (p q : Parts) (bytes : List ℕ) (a : Answer) → IsSound q → is_refusal a ≡ false →
+pub done : (row : Reads → Core → Call → Served) (call : Call) (p q : Parts) (bytes : List ℕ) (a : Answer) → IsSound q
+    → is_refusal a ≡ false →
     q.harts ≡ p.harts → KeepsSizes p q → ServesAs row call p q bytes a → Meets row call (kept_at p.harts call.hart).flight p q bytes a
 done row call p q bytes a sound e same sizes served = record {
   served = served;
   refused = λ f. absurd (let q : ⊥ = cc in q);
-  harts = subst (λ (harts : List Kept). KeepsHarts call (kept_at p.harts call.hart).flight p.harts harts) (sym same) (same-harts call p.harts);
+  harts = subst (λ (harts : List Kept). KeepsHarts call (kept_at p.harts call.hart).flight p.harts harts) (sym same)
+      (same-harts call p.harts);
   sizes = sizes;
   sound = sound;
 }
 
 -- other gates, answered by 0
-pub gates-done : (row : Reads → Core → Call → Served) (call : Call) (p q : Parts) (gates : List Gate) (a : Answer) → IsSound p → q ≡ record p { gates = gates } →
+pub gates-done : (row : Reads → Core → Call → Served) (call : Call) (p q : Parts) (gates : List Gate) (a : Answer) → IsSound p
+    → q ≡ record p { gates = gates } →
     a ≡ plain 0 → ((rest : Core) → row_on row call p rest ≡ answers (record (core_of rest p) { gates = gates }) 0) →
     Meets row call (kept_at p.harts call.hart).flight p q [] a
 gates-done row call p q gates a sound eq ea es =
@@ -162,7 +181,8 @@ gates-done row call p q gates a sound eq ea es =
     rw (eq, ea) m
 
 -- a give, answered by 0
-pub give-done : (row : Reads → Core → Call → Served) (call : Call) (p q : Parts) (give : Give) (a : Answer) → IsSound p → q ≡ record p { owners = laid give p.owners } →
+pub give-done : (row : Reads → Core → Call → Served) (call : Call) (p q : Parts) (give : Give) (a : Answer) → IsSound p
+    → q ≡ record p { owners = laid give p.owners } →
     a ≡ plain 0 → ((rest : Core) → row_on row call p rest ≡ record (answers (core_of rest p) 0) { give = Some give }) →
     Meets row call (kept_at p.harts call.hart).flight p q [] a
 give-done row call p q give a sound eq ea es =
@@ -183,9 +203,12 @@ give-done row call p q give a sound eq ea es =
     rw (eq, ea) m
 
 -- bytes of RAM after looks alone, with the answers in a0 and a1
-pub ram-done : (row : Reads → Core → Call → Served) (call : Call) (p q t : Parts) (ram : List ℕ) (a : Answer) → IsSound p → q ≡ record p { harts = q.harts } →
-    KeepsHarts call (kept_at p.harts call.hart).flight p.harts q.harts → t ≡ record q { ram = ram } → length ram ≡ length p.ram → is_refusal a ≡ false →
-    ((rest : Core) → BarsAlike rest p call.hart → row_on row call p rest ≡ record (answers (record (core_of rest q) { ram = ram }) a.a0) { a1 = a.a1; stop = a.stop }) →
+pub ram-done : (row : Reads → Core → Call → Served) (call : Call) (p q t : Parts) (ram : List ℕ) (a : Answer) → IsSound p
+    → q ≡ record p { harts = q.harts } →
+    KeepsHarts call (kept_at p.harts call.hart).flight p.harts q.harts → t ≡ record q { ram = ram } → length ram ≡ length p.ram
+    → is_refusal a ≡ false →
+    ((rest : Core) → BarsAlike rest p call.hart → row_on row call p rest
+    ≡ record (answers (record (core_of rest q) { ram = ram }) a.a0) { a1 = a.a1; stop = a.stop }) →
     Meets row call (kept_at p.harts call.hart).flight p t [] a
 ram-done row call p q t ram a sound same keeps made size ok es =
     let u : Parts = record p { harts = q.harts; ram = ram } in

@@ -1,5 +1,6 @@
 -- Calls that begin and end blocks.
-use Rattle.std.proofs.Common.{◌≡◌, ℕ, zero, suc, ◌+◌, ◌-◌, ◌*◌, ◌^◌, ◌<◌, ◌≤◌, nat_le, ◌==◌, List, [], ◌∷◌, length, get_or, set, refl, sym, ◌∙◌, ap, subst, arith, true, false, ⊎_elim, Option, Some, None}
+use Rattle.std.proofs.Common.{◌≡◌, ℕ, zero, suc, ◌+◌, ◌-◌, ◌*◌, ◌^◌, ◌<◌, ◌≤◌, nat_le, ◌==◌, List, [], ◌∷◌, length, get_or, set, refl, sym}
+use Rattle.std.proofs.Common.{◌∙◌, ap, subst, arith, true, false, ⊎_elim, Option, Some, None}
 use Rattle.std.specs.Prelude.{IsNone, IsSome, is_some}
 use Rattle.std.proofs.lemmas.Bool.{cases_lt, lt-leb}
 use Rattle.std.proofs.lemmas.List.{length-set}
@@ -43,7 +44,8 @@ sound-blocks p d blocks sound = record {
   ram = sound.ram;
   owners = sound.owners;
   heaps = length-set p.heaps (d - 1) (record (heap_at p.heaps d) { blocks = blocks }) ∙ sound.heaps;
-  areas = λ e. let same = area-set p.heaps (d - 1) (e - 1) blocks in subst (λ (a : Area). a.first + a.count ≤ p.size) (sym same) (sound.areas e);
+  areas = λ e. let same = area-set p.heaps (d - 1) (e - 1) blocks in
+      subst (λ (a : Area). a.first + a.count ≤ p.size) (sym same) (sound.areas e);
 }
 
 -- an address of RAM is no code
@@ -54,7 +56,8 @@ address-not-code first few = lt-leb (code 15) (address_of first) (omega (arith, 
 pub free-done : (call : Call) (p q u : Parts) (first count : ℕ) (given : ℕ → Option Perm) (a : Answer) → IsSound p →
     q ≡ record p { maps = changed_maps first count given p.maps } →
     u ≡ record q { heaps = with_blocks_at call.domain (without_block first (heap_at q.heaps call.domain).blocks) q.heaps } → a ≡ plain 0 →
-    ((rest : Core) → row_on serve_free call p rest ≡ changes (with_blocks call (without_block first (module_at (core_of rest p) call.domain).blocks) (core_of rest p))
+    ((rest : Core) → row_on serve_free call p rest ≡ changes (with_blocks call
+    (without_block first (module_at (core_of rest p) call.domain).blocks) (core_of rest p))
     (record { first = first; count = count; given = given })) →
     Meets serve_free call (kept_at p.harts call.hart).flight p u [] a
 free-done call p q u first count given a sound eq eu ea es =
@@ -66,7 +69,10 @@ free-done call p q u first count given a sound eq eu ea es =
     let m : Meets serve_free call (kept_at p.harts call.hart).flight p v [] (plain 0) =
     done serve_free call p v [] (plain 0) (sound-blocks t call.domain blocks (sound-changed p first count given sound)) refl refl
     (record { size = refl; limit = refl; modules = length-changed_from first count given 1 p.maps }) served in
-    let whole : u ≡ v = eu ∙ ap (λ (x : Parts). record x { heaps = with_blocks_at call.domain (without_block first (heap_at x.heaps call.domain).blocks) x.heaps }) eq in
+    let whole : u ≡ v = eu ∙ ap (λ (x : Parts). record x {
+      heaps =
+          with_blocks_at call.domain (without_block first (heap_at x.heaps call.domain).blocks) x.heaps;
+    }) eq in
     rw (whole, ea) m
 
 -- a block that began, zero-filled, and its words' rights
@@ -74,10 +80,14 @@ pub alloc-done : (call : Call) (p q u : Parts) (first : ℕ) (given : ℕ → Op
     length (cleared_at p.ram (4 * first) (4 * arg call 0)) ≡ length p.ram →
     q ≡ record p { maps = changed_maps first (arg call 0) given p.maps } →
     u ≡ record q {
-      heaps = with_blocks_at call.domain (with_block (record { first = first; count = arg call 0 }) (heap_at q.heaps call.domain).blocks) q.heaps;
+      heaps = with_blocks_at call.domain (with_block (record { first = first; count = arg call 0 }) (heap_at q.heaps call.domain).blocks)
+          q.heaps;
       ram = cleared_at q.ram (4 * first) (4 * arg call 0);
     } → a ≡ plain (address_of first) →
-    ((rest : Core) → row_on serve_alloc call p rest ≡ record (allocated (core_of rest p) call first) { change = Some (record { first = first; count = arg call 0; given = given }) }) →
+    ((rest : Core) → row_on serve_alloc call p rest ≡ record (allocated (core_of rest p) call first) {
+      change =
+          Some (record { first = first; count = arg call 0; given = given });
+    }) →
     Meets serve_alloc call (kept_at p.harts call.hart).flight p u [] a
 alloc-done call p q u first given a sound few long eq eu ea es =
     let t : Parts = record p { maps = changed_maps first (arg call 0) given p.maps } in
@@ -86,11 +96,21 @@ alloc-done call p q u first given a sound few long eq eu ea es =
     let ram : List ℕ = cleared_at p.ram (4 * first) (4 * arg call 0) in
     let v : Parts = record t { heaps = with_blocks_at call.domain blocks p.heaps; ram = ram } in
     let served : ServesAs serve_alloc call p v [] (plain (address_of first)) = λ rest bars. rw (es rest, module-blocks rest p call.domain)
-    (record { core = core-blocks rest (record p { ram = ram }) call blocks; maps = refl; owners = refl; console = refl; a0 = refl; a1 = refl; stop = refl }) in
+    (record {
+      core = core-blocks rest (record p { ram = ram }) call blocks;
+      maps = refl;
+      owners = refl;
+      console = refl;
+      a0 = refl;
+      a1 =
+          refl;
+      stop = refl;
+    }) in
     let refused : is_refusal (plain (address_of first)) ≡ false = address-not-code first few in
     let m : Meets serve_alloc call (kept_at p.harts call.hart).flight p v [] (plain (address_of first)) =
     done serve_alloc call p v [] (plain (address_of first))
-    (sound-ram (record t { heaps = with_blocks_at call.domain blocks p.heaps }) ram (sound-blocks t call.domain blocks (sound-changed p first (arg call 0) given sound)) long)
+    (sound-ram (record t { heaps = with_blocks_at call.domain blocks p.heaps }) ram
+    (sound-blocks t call.domain blocks (sound-changed p first (arg call 0) given sound)) long)
     refused refl (record { size = refl; limit = refl; modules = length-changed_from first (arg call 0) given 1 p.maps }) served in
     let whole : u ≡ v = eu ∙ ap (λ (x : Parts). record x {
       heaps = with_blocks_at call.domain (with_block b (heap_at x.heaps call.domain).blocks) x.heaps;
@@ -99,7 +119,8 @@ alloc-done call p q u first given a sound few long eq eu ea es =
     rw (whole, ea) m
 
 -- what call 6 comes to, test by test
-pub alloc-none : (r : Reads) (c : Core) (call : Call) → (arg call 0 == 0) ≡ false → alloc_place c call ≡ None → serve_alloc r c call ≡ answers c (code 6)
+pub alloc-none : (r : Reads) (c : Core) (call : Call) → (arg call 0 == 0) ≡ false → alloc_place c call ≡ None
+    → serve_alloc r c call ≡ answers c (code 6)
 alloc-none r c call z e = rw (z, e) refl
 
 pub alloc-full : (r : Reads) (c : Core) (call : Call) (first : ℕ) → (arg call 0 == 0) ≡ false → alloc_place c call ≡ Some first →
@@ -107,11 +128,13 @@ pub alloc-full : (r : Reads) (c : Core) (call : Call) (first : ℕ) → (arg cal
 alloc-full r c call first z e f = rw (z, e, f) refl
 
 pub alloc-unfit : (r : Reads) (c : Core) (call : Call) (first : ℕ) → (arg call 0 == 0) ≡ false → alloc_place c call ≡ Some first →
-    nat_le most_blocks (length (module_at c call.domain).blocks) ≡ false → r.fits (alloc_change first call) ≡ false → serve_alloc r c call ≡ answers c (code 5)
+    nat_le most_blocks (length (module_at c call.domain).blocks) ≡ false → r.fits (alloc_change first call) ≡ false
+    → serve_alloc r c call ≡ answers c (code 5)
 alloc-unfit r c call first z e f k = rw (z, e, f, k) refl
 
 pub alloc-fit : (r : Reads) (c : Core) (call : Call) (first : ℕ) → (arg call 0 == 0) ≡ false → alloc_place c call ≡ Some first →
-    nat_le most_blocks (length (module_at c call.domain).blocks) ≡ false → r.fits (alloc_change first call) ≡ true → serve_alloc r c call ≡ allocated c call first
+    nat_le most_blocks (length (module_at c call.domain).blocks) ≡ false → r.fits (alloc_change first call) ≡ true
+    → serve_alloc r c call ≡ allocated c call first
 alloc-fit r c call first z e f k = rw (z, e, f, k) refl
 
 -- the place and the number of blocks in a state made of parts
@@ -119,7 +142,8 @@ pub place-in : (rest : Core) (p : Parts) (call : Call) →
     alloc_place (core_of rest p) call ≡ place (heap_at p.heaps call.domain).area (heap_at p.heaps call.domain).blocks (arg call 0)
 place-in rest p call = rw (module-heap rest p call.domain, module-blocks rest p call.domain) refl
 
-pub blocks-in : (rest : Core) (p : Parts) (call : Call) → length (module_at (core_of rest p) call.domain).blocks ≡ length (heap_at p.heaps call.domain).blocks
+pub blocks-in : (rest : Core) (p : Parts) (call : Call) → length (module_at (core_of rest p) call.domain).blocks
+    ≡ length (heap_at p.heaps call.domain).blocks
 blocks-in rest p call = ap length (module-blocks rest p call.domain)
 
 pub none-of : (o : Option ℕ) → IsNone o → o ≡ None

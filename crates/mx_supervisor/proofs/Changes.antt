@@ -1,5 +1,6 @@
 -- Calls that change rights, and what changes beside them.
-use Rattle.std.proofs.Common.{◌≡◌, ℕ, ◌+◌, ◌-◌, ◌<◌, ◌≤◌, [], length, refl, sym, ◌∙◌, ap, subst, arith, Option, true, false, nat_lt, ⊎_elim, if◌then◌else◌}
+use Rattle.std.proofs.Common.{◌≡◌, ℕ, ◌+◌, ◌-◌, ◌<◌, ◌≤◌, [], length, refl, sym, ◌∙◌, ap, subst, arith, Option, true, false, nat_lt, ⊎_elim}
+use Rattle.std.proofs.Common.{if◌then◌else◌}
 use Rattle.std.proofs.lemmas.Bool.{cases_lt, le-ltb}
 use Rattle.mx_words.specs.declared.perm.Perm.{Perm}
 use Rattle.mx_words.specs.Changes.{changed_maps}
@@ -29,7 +30,8 @@ use Rattle.mx_supervisor.specs.Rights.{Gives}
 use Rattle.mx_supervisor.specs.Served.{IsIn, range_of}
 
 -- changed maps are as many and as long as they were
-pub sound-changed : (p : Parts) (first count : ℕ) (given : ℕ → Option Perm) → IsSound p → IsSound (record p { maps = changed_maps first count given p.maps })
+pub sound-changed : (p : Parts) (first count : ℕ) (given : ℕ → Option Perm) → IsSound p
+    → IsSound (record p { maps = changed_maps first count given p.maps })
 sound-changed p first count given sound =
     let many = length-changed_from first count given 1 p.maps in record {
       few_words = sound.few_words;
@@ -47,7 +49,8 @@ sound-changed p first count given sound =
     }
 
 -- changed rights, answered by 0
-pub changes-done : (row : Reads → Core → Call → Served) (call : Call) (p q : Parts) (first count : ℕ) (given : ℕ → Option Perm) (a : Answer) →
+pub changes-done : (row : Reads → Core → Call → Served) (call : Call) (p q : Parts) (first count : ℕ) (given : ℕ
+    → Option Perm) (a : Answer) →
     IsSound p → q ≡ record p { maps = changed_maps first count given p.maps } → a ≡ plain 0 →
     ((rest : Core) → row_on row call p rest ≡ changes (core_of rest p) (record { first = first; count = count; given = given })) →
     Meets row call (kept_at p.harts call.hart).flight p q [] a
@@ -61,7 +64,8 @@ changes-done row call p q first count given a sound eq ea es =
     rw (eq, ea) m
 
 -- a change of a range of RAM that names modules alone is lawful
-pub lawful-of : (c : ChangeOf) (first count words modules : ℕ) (given : ℕ → Option Perm) → Gives c first count modules given → 0 < count → first + count ≤ words →
+pub lawful-of : (c : ChangeOf) (first count words modules : ℕ) (given : ℕ → Option Perm) → Gives c first count modules given → 0 < count
+    → first + count ≤ words →
     IsLawful c words modules
 lawful-of c first count words modules given gives some inside = record {
   some = let a = gives.count in omega (arith, a, some);
@@ -91,7 +95,8 @@ no_core = record {
 }
 
 -- the range of a call 3 or 4, and of a call 6 or 7
-pub range-named : (p : Parts) (call : Call) (r : ℕ × ℕ) → names_range call.number ≡ true → ((rest : Core) → arg_range (core_of rest p) call ≡ r) → range_of p call ≡ r
+pub range-named : (p : Parts) (call : Call) (r : ℕ × ℕ) → names_range call.number ≡ true
+    → ((rest : Core) → arg_range (core_of rest p) call ≡ r) → range_of p call ≡ r
 range-named p call r named e =
     let heap : Area = (heap_at p.heaps call.domain).area in
     ap (λ b. if b then range_words (arg call 0) (arg call 1) p.size else (heap.first, heap.count)) named ∙ e no_core

@@ -1,5 +1,6 @@
 -- A change of rights by an array, and by a function of the domains.
-use Rattle.std.proofs.Common.{◌≡◌, ℕ, ◌+◌, ◌<◌, ◌≤◌, List, [], ◌∷◌, length, refl, ap, ◌∙◌, arith, Bool, true, false, not, ◌↔◌, Option, Some, None, Result, Ok, Err, is_ok}
+use Rattle.std.proofs.Common.{◌≡◌, ℕ, ◌+◌, ◌<◌, ◌≤◌, List, [], ◌∷◌, length, refl, ap, ◌∙◌, arith, Bool, true, false, not, ◌↔◌, Option, Some}
+use Rattle.std.proofs.Common.{None, Result, Ok, Err, is_ok}
 use Rattle.std.specs.Prelude.{IfSome, IsTrue, IsFalse, OnOk, OnErr}
 use Rattle.mx_words.specs.declared.perm.Perm.{Perm}
 use Rattle.mx_words.specs.Changes.{changed_map, changed_from, changed_maps}
@@ -13,12 +14,14 @@ use Rattle.mx_supervisor.specs.Parts.{Parts}
 use Rattle.mx_supervisor.specs.Rights.{Gives}
 use Rattle.mx_supervisor.specs.Served.{IsIn, range_of, HasAnnounced}
 
-from-agree : (first count : ℕ) (f g : ℕ → Option Perm) (d : ℕ) (maps : List (List Perm)) → ((i : ℕ) → d ≤ i → i < d + length maps → f i ≡ g i) →
+from-agree : (first count : ℕ) (f g : ℕ → Option Perm) (d : ℕ) (maps : List (List Perm))
+    → ((i : ℕ) → d ≤ i → i < d + length maps → f i ≡ g i) →
     changed_from first count f d maps ≡ changed_from first count g d maps
 from-agree first count f g d [] agree = refl
 from-agree first count f g d (m ∷ ms) agree =
     ap (λ o. changed_map first count o m ∷ changed_from first count f (d + 1) ms) (agree d (omega arith) (omega arith))
-    ∙ ap (λ (x : List (List Perm)). changed_map first count (g d) m ∷ x) (from-agree first count f g (d + 1) ms (λ i low high. agree i (omega arith) (omega arith)))
+    ∙ ap (λ (x : List (List Perm)). changed_map first count (g d) m ∷ x)
+    (from-agree first count f g (d + 1) ms (λ i low high. agree i (omega arith) (omega arith)))
 
 -- functions that agree on the modules change the maps alike
 pub maps-agree : (first count : ℕ) (f g : ℕ → Option Perm) (maps : List (List Perm)) → ((i : ℕ) → 1 ≤ i → i ≤ length maps → f i ≡ g i) →
@@ -34,11 +37,13 @@ changed-as c first count f maps gives =
     ∙ maps-agree first count (given c) f maps gives.given
 
 -- a change inside the range of an announced call may be made
-inside-of : (o : Option Flight) (r : ℕ × ℕ) (c : Change) → IfSome o (λ f. (f.first ≡ r.0) × (f.count ≡ r.1)) → IsIn c.first c.count r → IfSome o (IsInside c)
+inside-of : (o : Option Flight) (r : ℕ × ℕ) (c : Change) → IfSome o (λ f. (f.first ≡ r.0) × (f.count ≡ r.1)) → IsIn c.first c.count r
+    → IfSome o (IsInside c)
 inside-of None r c e p = tt
 inside-of (Some f) r c e p = let a = e.0 in let b = e.1 in let x = p.0 in let y = p.1 in (omega (arith, a, x), omega (arith, a, b, y))
 
-pub may-change : (p : Parts) (call : Call) (c : Change) → HasAnnounced p call → IsIn c.first c.count (range_of p call) → MayChange call.hart c p.harts
+pub may-change : (p : Parts) (call : Call) (c : Change) → HasAnnounced p call → IsIn c.first c.count (range_of p call)
+    → MayChange call.hart c p.harts
 may-change p call c announced inside = record {
   hart = announced.hart;
   ready = announced.ready;

@@ -1,5 +1,6 @@
 -- The end of a call: an announced one is no longer in flight, and its hart drops its own spans on the range.
-use Rattle.std.proofs.Common.{◌≡◌, ℕ, ◌<◌, true, false, List, length, set, Option, Some, None, inl, inr, sym, ap, subst, ◌∙◌, arith, length-set, get_or-set_same, get_or-set_other}
+use Rattle.std.proofs.Common.{◌≡◌, ℕ, ◌<◌, true, false, List, length, set, Option, Some, None, inl, inr, sym, ap, subst, ◌∙◌, arith}
+use Rattle.std.proofs.Common.{length-set, get_or-set_same, get_or-set_other}
 use Rattle.std.proofs.Common.{map as list_map}
 use Rattle.std.specs.Prelude.{IfSome}
 use Rattle.std.proofs.Math.ListN.{get_or-map}
@@ -29,15 +30,18 @@ range-is rest p call =
     ap (λ (a : Area). announced call.number (arg call 0) (arg call 1) p.size (a.first, a.count)) (module-heap rest p call.domain)
 
 -- what a ready call drops at its end
-ended-is : (h : ℕ) (harts : List Kept) (o : Option Flight) (r : ℕ × ℕ) (c : Cache) → IfSome o (λ f. (f.first ≡ r.0) × (f.count ≡ r.1)) → ready_with h o harts ≡ true →
+ended-is : (h : ℕ) (harts : List Kept) (o : Option Flight) (r : ℕ × ℕ) (c : Cache) → IfSome o (λ f. (f.first ≡ r.0) × (f.count ≡ r.1))
+    → ready_with h o harts ≡ true →
     without_flight_range o c ≡ without_range r.0 r.1 c
 ended-is h harts None r c range ready = absurd (let q : ⊥ = cc in q)
 ended-is h harts (Some f) r c range ready =
     ap (λ n. without_range n f.count c) range.0 ∙ ap (λ n. without_range r.0 n c) range.1
 
 -- the state after it
-core-ended : (rest : Core) (call : Call) (p q : Parts) → HasAnnounced p call → (kept_at q.harts call.hart).flight ≡ (kept_at p.harts call.hart).flight →
-    core_of rest (record q { harts = at_hart call.hart finished q.harts }) ≡ drops call.hart (call_range (core_of rest p) call) (core_of rest q)
+core-ended : (rest : Core) (call : Call) (p q : Parts) → HasAnnounced p call
+    → (kept_at q.harts call.hart).flight ≡ (kept_at p.harts call.hart).flight →
+    core_of rest (record q { harts = at_hart call.hart finished q.harts })
+    ≡ drops call.hart (call_range (core_of rest p) call) (core_of rest q)
 core-ended rest call p q announced same =
     let h = call.hart in
     let k = kept_at q.harts h in
@@ -57,7 +61,8 @@ harts-ended : (call : Call) (old now : List Kept) → call.hart < length old →
 harts-ended call old now there keeps =
     let h = call.hart in
     let is : h < length now = let e = keeps.count in omega (arith, e, there) in
-    let own : kept_at (at_hart h finished now) h ≡ finished (kept_at now h) = get_or-set_same now h (finished (kept_at now h)) nothing_kept is in
+    let own : kept_at (at_hart h finished now) h ≡ finished (kept_at now h) =
+    get_or-set_same now h (finished (kept_at now h)) nothing_kept is in
     record {
       count = length-set now h (finished (kept_at now h)) ∙ keeps.count;
       others = λ i ne. get_or-set_other now h i (finished (kept_at now h)) nothing_kept ne ∙ keeps.others i ne;
@@ -84,8 +89,16 @@ ended-meets call p q bytes a is announced m =
             a1 = s.a1;
             stop = s.stop;
           });
-      refused = λ e. let r = m.refused e in record { maps = r.maps; owners = r.owners; gates = r.gates; heaps = r.heaps; ram = r.ram; console = r.console };
-      harts = subst (λ (o : Option Flight). KeepsHarts call o p.harts (at_hart call.hart finished q.harts)) after (harts-ended call p.harts q.harts announced.hart m.harts);
+      refused = λ e. let r = m.refused e in record {
+        maps = r.maps;
+        owners = r.owners;
+        gates = r.gates;
+        heaps = r.heaps;
+        ram = r.ram;
+        console = r.console;
+      };
+      harts = subst (λ (o : Option Flight). KeepsHarts call o p.harts (at_hart call.hart finished q.harts)) after
+          (harts-ended call p.harts q.harts announced.hart m.harts);
       sizes = record { size = m.sizes.size; limit = m.sizes.limit; modules = m.sizes.modules };
       sound = with-harts q (at_hart call.hart finished q.harts) m.sound;
     }

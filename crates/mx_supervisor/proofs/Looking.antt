@@ -1,5 +1,6 @@
 -- One look at a word: what the checker keeps afterwards is what the model's look leaves.
-use Rattle.std.proofs.Common.{◌≡◌, ◌≢◌, ℕ, ◌-◌, ◌*◌, ◌/◌, ◌<◌, inl, inr, true, not, nat_lt, nat_le, List, length, set, Option, Some, refl, sym, ap, subst, ◌∙◌, arith, length-set, get_or-set_same, get_or-set_other}
+use Rattle.std.proofs.Common.{◌≡◌, ◌≢◌, ℕ, ◌-◌, ◌*◌, ◌/◌, ◌<◌, inl, inr, true, not, nat_lt, nat_le, List, length, set, Option, Some, refl}
+use Rattle.std.proofs.Common.{sym, ap, subst, ◌∙◌, arith, length-set, get_or-set_same, get_or-set_other}
 use Rattle.std.proofs.Common.{map as list_map}
 use Rattle.std.specs.Prelude.{IfSome}
 use Rattle.std.proofs.Math.ListN.{get_or-map}
@@ -49,7 +50,8 @@ barred-kept h s old new count same =
     (λ i lt. ap not (hart_forbids-other h s old new i (λ ne. ap (λ (k : Kept). k.flight) (same i ne)))))
 
 -- the parts with other harts that keep the calls in flight
-pub bars-kept : (rest : Core) (p : Parts) (call : Call) (flight : Option Flight) (harts : List Kept) → KeepsHarts call flight p.harts harts →
+pub bars-kept : (rest : Core) (p : Parts) (call : Call) (flight : Option Flight) (harts : List Kept)
+    → KeepsHarts call flight p.harts harts →
     BarsAlike rest p call.hart → BarsAlike rest (record p { harts = harts }) call.hart
 bars-kept rest p call flight harts keeps bars = record {
   at = λ s. bars.at s ∙ sym (barred-kept call.hart s p.harts harts keeps.count keeps.others);
@@ -65,10 +67,13 @@ looked-word p h d w sound there lt =
 
 -- a step of the caller's hart that keeps all but caches and domain
 pub step-keeps : (call : Call) (harts : List Kept) (step : Kept → Kept) → call.hart < length harts →
-    (step (kept_at harts call.hart)).halted ≡ (kept_at harts call.hart).halted → (step (kept_at harts call.hart)).flight ≡ (kept_at harts call.hart).flight →
-    (step (kept_at harts call.hart)).domain ≡ Some call.domain → KeepsHarts call (kept_at harts call.hart).flight harts (at_hart call.hart step harts)
+    (step (kept_at harts call.hart)).halted ≡ (kept_at harts call.hart).halted
+    → (step (kept_at harts call.hart)).flight ≡ (kept_at harts call.hart).flight →
+    (step (kept_at harts call.hart)).domain ≡ Some call.domain
+    → KeepsHarts call (kept_at harts call.hart).flight harts (at_hart call.hart step harts)
 step-keeps call harts step there halted flight domain =
-    let now : kept_at (at_hart call.hart step harts) call.hart ≡ step (kept_at harts call.hart) = get_or-set_same harts call.hart (step (kept_at harts call.hart)) nothing_kept there in
+    let now : kept_at (at_hart call.hart step harts) call.hart ≡ step (kept_at harts call.hart) =
+    get_or-set_same harts call.hart (step (kept_at harts call.hart)) nothing_kept there in
     record {
       count = length-set harts call.hart (step (kept_at harts call.hart));
       others = λ i ne. get_or-set_other harts call.hart i (step (kept_at harts call.hart)) nothing_kept ne;
@@ -83,7 +88,8 @@ cache_of k = k.cache
 -- the state after it
 core-look : (rest : Core) (p : Parts) (h d w : ℕ) → IsDomain p.maps d → BarsAlike rest p h →
     core_of rest (record p {
-      harts = at_hart h (looks p.buffer 10 d w (span p.kind (map_of p.maps d) w) (is_forbidden h (span p.kind (map_of p.maps d) w) p.harts)) p.harts;
+      harts = at_hart h (looks p.buffer 10 d w (span p.kind (map_of p.maps d) w) (is_forbidden h (span p.kind (map_of p.maps d) w) p.harts))
+          p.harts;
     }) ≡ looked (flat_reads (flat_of rest p)) h (core_of rest p) (look_of d w)
 core-look rest p h d w there bars =
     let s = span p.kind (map_of p.maps d) w in
@@ -98,7 +104,8 @@ core-look rest p h d w there bars =
     ∙ ap (λ b. set caches h (checked p.buffer 10 d w t b (cache_at (core_of rest p) h))) (sym (bars.at t)))
 
 -- the look of a call's hart
-pub has-looked : (call : Call) (w : ℕ) (p : Parts) (harts : List Kept) → IsSound p → IsDomain p.maps call.domain → w < p.size → MayLook call.hart call.domain p.harts →
+pub has-looked : (call : Call) (w : ℕ) (p : Parts) (harts : List Kept) → IsSound p → IsDomain p.maps call.domain → w < p.size
+    → MayLook call.hart call.domain p.harts →
     harts ≡ looked_at_address p.buffer p.kind (map_of p.maps call.domain) call.hart 10 call.domain (address_of w) p.harts →
     HasLooked call w p (record p { harts = harts })
 has-looked call w p harts sound there lt may is =
@@ -118,22 +125,29 @@ allowed-word p d w access sound there lt =
     rw (size, word-of-address w p.size lt, map-in p.size p.maps d there) (not-not (allows (perm_at (map_of p.maps d) w) access))
 
 -- two steps of the caller's hart, and whether it may look again
-pub keeps-both : (call : Call) (a b c : List Kept) → KeepsHarts call (kept_at a call.hart).flight a b → KeepsHarts call (kept_at b call.hart).flight b c →
+pub keeps-both : (call : Call) (a b c : List Kept) → KeepsHarts call (kept_at a call.hart).flight a b
+    → KeepsHarts call (kept_at b call.hart).flight b c →
     KeepsHarts call (kept_at a call.hart).flight a c
 keeps-both call a b c x y = record {
   count = y.count ∙ x.count;
   others = λ i ne. y.others i ne ∙ x.others i ne;
   halted = y.halted ∙ x.halted;
   flight = y.flight ∙ x.flight;
-  domain = elim y.domain [ inl same ↦ elim x.domain [ inl before ↦ inl (same ∙ before) | inr named ↦ inr (same ∙ named) ] | inr named ↦ inr named ];
+  domain = elim y.domain [
+    | inl same ↦ elim x.domain [ inl before ↦ inl (same ∙ before) | inr named ↦ inr (same ∙ named) ]
+    | inr named ↦
+        inr named
+  ];
 }
 
-pub may-again : (call : Call) (flight : Option Flight) (a b : List Kept) → flight ≡ (kept_at a call.hart).flight → KeepsHarts call flight a b →
+pub may-again : (call : Call) (flight : Option Flight) (a b : List Kept) → flight ≡ (kept_at a call.hart).flight
+    → KeepsHarts call flight a b →
     MayLook call.hart call.domain a → MayLook call.hart call.domain b
 may-again call flight a b same keeps may = record {
   hart = let e = keeps.count in let h = may.hart in omega (arith, e, h);
   running = keeps.halted ∙ may.running;
   free = keeps.flight ∙ same ∙ may.free;
   heard = λ i ne. subst (λ (k : Kept). IfSome k.flight (λ f. is_in f.heard call.hart ≡ true)) (sym (keeps.others i ne)) (may.heard i ne);
-  same_domain = if_some_after (λ x. x ≡ call.domain) call.domain (kept_at a call.hart).domain (kept_at b call.hart).domain keeps.domain refl may.same_domain;
+  same_domain = if_some_after (λ x. x ≡ call.domain) call.domain (kept_at a call.hart).domain (kept_at b call.hart).domain keeps.domain refl
+      may.same_domain;
 }

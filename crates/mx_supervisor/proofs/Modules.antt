@@ -12,12 +12,14 @@ pub length-modules : (rest : Core) (d : ℕ) (heaps : List HeapState) → length
 length-modules rest d [] = refl
 length-modules rest d (x ∷ xs) = ap suc (length-modules rest (d + 1) xs)
 
-heap-at : (rest : Core) (d i : ℕ) (heaps : List HeapState) → (get_or (modules_from rest d heaps) i no_module).heap ≡ (get_or heaps i no_heap).area
+heap-at : (rest : Core) (d i : ℕ) (heaps : List HeapState) → (get_or (modules_from rest d heaps) i no_module).heap
+    ≡ (get_or heaps i no_heap).area
 heap-at rest d i [] = refl
 heap-at rest d zero (x ∷ xs) = refl
 heap-at rest d (suc i) (x ∷ xs) = heap-at rest (d + 1) i xs
 
-blocks-at : (rest : Core) (d i : ℕ) (heaps : List HeapState) → (get_or (modules_from rest d heaps) i no_module).blocks ≡ (get_or heaps i no_heap).blocks
+blocks-at : (rest : Core) (d i : ℕ) (heaps : List HeapState) → (get_or (modules_from rest d heaps) i no_module).blocks
+    ≡ (get_or heaps i no_heap).blocks
 blocks-at rest d i [] = refl
 blocks-at rest d zero (x ∷ xs) = refl
 blocks-at rest d (suc i) (x ∷ xs) = blocks-at rest (d + 1) i xs
@@ -27,7 +29,8 @@ set-blocks : (rest : Core) (d i : ℕ) (heaps : List HeapState) (blocks : List A
     ≡ set (modules_from rest d heaps) i (record (get_or (modules_from rest d heaps) i no_module) { blocks = blocks })
 set-blocks rest d i [] blocks = refl
 set-blocks rest d zero (x ∷ xs) blocks = refl
-set-blocks rest d (suc i) (x ∷ xs) blocks = ap (λ (ms : List Module). with_heap (module_at rest d) x ∷ ms) (set-blocks rest (d + 1) i xs blocks)
+set-blocks rest d (suc i) (x ∷ xs) blocks = ap (λ (ms : List Module). with_heap (module_at rest d) x ∷ ms)
+    (set-blocks rest (d + 1) i xs blocks)
 
 -- the same in a state
 pub module-heap : (rest : Core) (p : Parts) (d : ℕ) → (module_at (core_of rest p) d).heap ≡ (heap_at p.heaps d).area

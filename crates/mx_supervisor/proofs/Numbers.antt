@@ -12,7 +12,8 @@ use Rattle.mx_supervisor.specs.Served.{IsServed, Meets, served_row}
 pub as-row : (s : Service) (call : Call) (after : Option Flight) (p q : Parts) (bytes : List ℕ) (a : Answer) → service call.number ≡ s →
     Meets (served_by s) call after p q bytes a → Meets served_row call after p q bytes a
 as-row s call after p q bytes a e m = record {
-  served = λ rest bars. subst (λ (t : Service). IsServed rest p q bytes a (served_by t (flat_reads (flat_of rest p)) (core_of rest p) call)) (sym e) (m.served rest bars);
+  served = λ rest bars. subst (λ (t : Service). IsServed rest p q bytes a (served_by t (flat_reads (flat_of rest p)) (core_of rest p) call))
+      (sym e) (m.served rest bars);
   refused = m.refused;
   harts = m.harts;
   sizes = m.sizes;
@@ -20,6 +21,8 @@ as-row s call after p q bytes a e m = record {
 }
 
 -- the same of a call that puts no bytes to the console
-pub as-silent-row : (s : Service) (call : Call) (after : Option Flight) (p q : Parts) (bytes : List ℕ) (a : Answer) → service call.number ≡ s → bytes ≡ [] →
+pub as-silent-row : (s : Service) (call : Call) (after : Option Flight) (p q : Parts) (bytes : List ℕ) (a : Answer)
+    → service call.number ≡ s → bytes ≡ [] →
     Meets (served_by s) call after p q [] a → Meets served_row call after p q bytes a
-as-silent-row s call after p q bytes a e none m = as-row s call after p q bytes a e (subst (λ (b : List ℕ). Meets (served_by s) call after p q b a) (sym none) m)
+as-silent-row s call after p q bytes a e none m = as-row s call after p q bytes a e
+    (subst (λ (b : List ℕ). Meets (served_by s) call after p q b a) (sym none) m)

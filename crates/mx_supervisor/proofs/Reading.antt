@@ -40,11 +40,13 @@ first-look r h d w ws c ok =
     let one : 1 + prefix_len (may_read r d) ws + 1 ≡ suc (prefix_len (may_read r d) ws + 1) = omega arith in
     rw (ok, one)
 
-last-look : (r : Reads) (h d w : ℕ) (ws : List ℕ) (c : Core) → may_read r d w ≡ false → read_through r h d (w ∷ ws) c ≡ looked r h c (look_of d w)
+last-look : (r : Reads) (h d w : ℕ) (ws : List ℕ) (c : Core) → may_read r d w ≡ false
+    → read_through r h d (w ∷ ws) c ≡ looked r h c (look_of d w)
 last-look r h d w ws c bad = rw bad
 
 -- one more word may be read
-left-more : (call : Call) (w : ℕ) (words ws : List ℕ) (old : Parts) (harts next : List Kept) → LeftDecides call words (w ∷ ws) old harts → readable old call.domain w ≡ true →
+left-more : (call : Call) (w : ℕ) (words ws : List ℕ) (old : Parts) (harts next : List Kept) → LeftDecides call words (w ∷ ws) old harts
+    → readable old call.domain w ≡ true →
     HasLooked call w (record old { harts = harts }) (record old { harts = next }) → LeftDecides call words ws old next
 left-more call w words ws old harts next left ok look = record {
   keeps = keeps-both call old.harts harts next left.keeps look.harts;
@@ -52,16 +54,21 @@ left-more call w words ws old harts next left ok look = record {
   core = λ rest bars.
       left.core rest bars
       ∙ first-look (flat_reads (flat_of rest old)) call.hart call.domain w ws (core_of rest (record old { harts = harts })) ok
-      ∙ ap (read_through (flat_reads (flat_of rest old)) call.hart call.domain ws) (sym (look.core rest (bars-kept rest old call _ harts left.keeps bars)));
+      ∙ ap (read_through (flat_reads (flat_of rest old)) call.hart call.domain ws)
+      (sym (look.core rest (bars-kept rest old call _ harts left.keeps bars)));
 }
 
 look-from : (call : Call) (w : ℕ) (old now next : Parts) → now ≡ record old { harts = now.harts } → HasLooked call w now next →
     (next ≡ record old { harts = next.harts }) × HasLooked call w (record old { harts = now.harts }) (record old { harts = next.harts })
 look-from call w old now next same look =
-    let e : next ≡ record old { harts = next.harts } = look.same ∙ ap (λ (p : Parts). record p { harts = next.harts }) same in
-    (e, subst (λ (p : Parts). HasLooked call w p (record old { harts = next.harts })) same (subst (λ (q : Parts). HasLooked call w now q) e look))
+    let e : next ≡ record old { harts = next.harts } = look.same ∙ ap (λ (p : Parts). record p { harts = next.harts }) same in (
+      e,
+      subst (λ (p : Parts). HasLooked call w p (record old { harts = next.harts })) same
+          (subst (λ (q : Parts). HasLooked call w now q) e look),
+    )
 
-pub read-more : (call : Call) (w : ℕ) (words ws : List ℕ) (old now next : Parts) → HasReadTo call words (w ∷ ws) old now → HasLooked call w now next →
+pub read-more : (call : Call) (w : ℕ) (words ws : List ℕ) (old now next : Parts) → HasReadTo call words (w ∷ ws) old now
+    → HasLooked call w now next →
     readable now call.domain w ≡ true → HasReadTo call words ws old next
 read-more call w words ws old now next read look ok =
     let l = look-from call w old now next read.same look in
@@ -73,13 +80,15 @@ read-more call w words ws old now next read look ok =
     }
 
 -- one may not
-pub read-stop : (call : Call) (w : ℕ) (words ws : List ℕ) (old now next : Parts) → HasReadTo call words (w ∷ ws) old now → HasLooked call w now next →
+pub read-stop : (call : Call) (w : ℕ) (words ws : List ℕ) (old now next : Parts) → HasReadTo call words (w ∷ ws) old now
+    → HasLooked call w now next →
     readable now call.domain w ≡ false → HasRead call words old next × (list_all (readable old call.domain) words ≡ false)
 read-stop call w words ws old now next read look bad =
     let l = look-from call w old now next read.same look in
     let was : readable old call.domain w ≡ false = ap (λ (p : Parts). readable p call.domain w) (sym read.same) ∙ bad in
     let core : (rest : Core) → BarsAlike rest old call.hart →
-    core_of rest (record old { harts = next.harts }) ≡ read_through (flat_reads (flat_of rest old)) call.hart call.domain words (core_of rest old) = λ rest bars.
+    core_of rest (record old { harts = next.harts }) ≡ read_through (flat_reads (flat_of rest old)) call.hart call.domain words
+    (core_of rest old) = λ rest bars.
     l.1.core rest (bars-kept rest old call _ now.harts read.decides.keeps bars)
     ∙ sym (read.decides.core rest bars
     ∙ last-look (flat_reads (flat_of rest old)) call.hart call.domain w ws (core_of rest (record old { harts = now.harts })) was) in

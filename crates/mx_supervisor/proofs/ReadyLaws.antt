@@ -26,7 +26,8 @@ with-kept call flight (Some f) old now keeps =
     ∙ all_below_agree (length old) (hart_lets_pass call.hart f now) (hart_lets_pass call.hart f old)
     (λ i lt. ap (lets_pass call.hart f.heard i) (halted-kept call flight old now keeps i))
 
-pub ready-kept : (call : Call) (old now : List Kept) → KeepsHarts call (kept_at old call.hart).flight old now → is_ready call.hart now ≡ is_ready call.hart old
+pub ready-kept : (call : Call) (old now : List Kept) → KeepsHarts call (kept_at old call.hart).flight old now
+    → is_ready call.hart now ≡ is_ready call.hart old
 ready-kept call old now keeps =
     ap (λ (o : Option Flight). ready_with call.hart o now) keeps.flight
     ∙ with-kept call (kept_at old call.hart).flight (kept_at old call.hart).flight old now keeps

@@ -1,5 +1,6 @@
 -- What is true of each module's heap.
-use Rattle.std.proofs.Common.{◌≡◌, ℕ, ◌+◌, ◌<◌, ◌≤◌, ◌⊎◌, inl, inr, cond, List, [], ◌∷◌, length, get_or, eq-eqb, refl, sym, ap, subst, ◌∙◌, arith, Option, None}
+use Rattle.std.proofs.Common.{◌≡◌, ℕ, ◌+◌, ◌<◌, ◌≤◌, ◌⊎◌, inl, inr, cond, List, [], ◌∷◌, length, get_or, eq-eqb, refl, sym, ap, subst, ◌∙◌}
+use Rattle.std.proofs.Common.{arith, Option, None}
 use Rattle.std.proofs.Common.{map as list_map}
 use Rattle.std.proofs.lemmas.Bool.{cases_eq, ne_eqb}
 use Rattle.std.proofs.lemmas.List.{get_or-map, get_or_past, length-map}
@@ -12,7 +13,8 @@ use Rattle.mx_supervisor.specs.Told.{IsTold}
 -- an area of no words has no block
 nowhere : (first count : ℕ) (bs : List Area) → count ≡ 0 → AreApart first (first + count) bs → AreApart 0 0 bs
 nowhere first count [] e h = omega arith
-nowhere first count (b ∷ bs) e h = let rest = apart_ordered (b.first + b.count) (first + count) bs h.2 in absurd (omega (arith, e, h.0, h.1, rest))
+nowhere first count (b ∷ bs) e h = let rest = apart_ordered (b.first + b.count) (first + count) bs h.2 in
+    absurd (omega (arith, e, h.0, h.1, rest))
 
 pub told-none : IsTold no_heap
 told-none = record { heap = record { apart = omega arith; few = omega arith }; no_words = λ e. refl }
@@ -34,7 +36,8 @@ told-heap h is = by (cases_eq h.area.count 0)
 pub record AreToldFirst (n : ℕ) (heaps : List HeapState) : Type 0 where
   pub at : (j : ℕ) → j < n → IsTold (get_or heaps j no_heap)
 
-pub first-more : (heaps : List HeapState) (i : ℕ) (h : HeapState) → AreToldFirst i heaps → h ≡ get_or heaps i no_heap → IsTold h → AreToldFirst (i + 1) heaps
+pub first-more : (heaps : List HeapState) (i : ℕ) (h : HeapState) → AreToldFirst i heaps → h ≡ get_or heaps i no_heap → IsTold h
+    → AreToldFirst (i + 1) heaps
 first-more heaps i h a same here = record { at = λ j lt. by j lt (cases_eq j i) }
   where
     by : (j : ℕ) → j < i + 1 → (j ≡ i) ⊎ (j ≡ i → ⊥) → IsTold (get_or heaps j no_heap)
@@ -42,7 +45,8 @@ first-more heaps i h a same here = record { at = λ j lt. by j lt (cases_eq j i)
     by j lt (inr ne) = a.at j (omega (arith, lt, ne))
 
 -- one more heap is told so: the one in the next slot
-pub first-there : (slots ws : List (Option HeapState)) (heaps : List HeapState) (i : ℕ) (slot : Option HeapState) → list_map heap_in slots ≡ heaps → ws ≡ slots →
+pub first-there : (slots ws : List (Option HeapState)) (heaps : List HeapState) (i : ℕ) (slot : Option HeapState)
+    → list_map heap_in slots ≡ heaps → ws ≡ slots →
     AreToldFirst i heaps → i < length ws → slot ≡ get_or ws i None → IsTold (heap_in slot) → AreToldFirst (i + 1) heaps
 first-there slots ws heaps i slot view same a lt is here =
     let there : i < length slots = omega (arith, lt, ap length same) in
@@ -51,7 +55,8 @@ first-there slots ws heaps i slot view same a lt is here =
     ∙ ap (λ (hs : List HeapState). get_or hs i no_heap) view) here
 
 -- where no slot is left, there is no heap
-pub first-past : (slots ws : List (Option HeapState)) (heaps : List HeapState) (i : ℕ) → list_map heap_in slots ≡ heaps → ws ≡ slots → AreToldFirst i heaps →
+pub first-past : (slots ws : List (Option HeapState)) (heaps : List HeapState) (i : ℕ) → list_map heap_in slots ≡ heaps → ws ≡ slots
+    → AreToldFirst i heaps →
     length ws ≤ i → AreToldFirst (i + 1) heaps
 first-past slots ws heaps i view same a le =
     let long : length heaps ≤ i = omega (arith, le, ap length same, ap length view, length-map slots heap_in) in

@@ -1,10 +1,12 @@
 //! The heaps of all modules.
-ghost use Rattle.std.specs.Prelude.{◌≡◌, ℕ, ◌+◌, ◌<◌, ◌≤◌, ◌↔◌, true, [], ◌∷◌, ◌++◌, length, slice_get, slice_set, IfOk, IsNone, IsSome, IsErrOf, IfSome, Some};
+ghost use Rattle.std.specs.Prelude.{◌≡◌, ℕ, ◌+◌, ◌<◌, ◌≤◌, ◌↔◌, true, [], ◌∷◌, ◌++◌, length, slice_get, slice_set};
+ghost use Rattle.std.specs.Prelude.{IfOk, IsNone, IsSome, IsErrOf, IfSome, Some};
 ghost use Rattle.std.specs.Option.{option_map};
 ghost use Rattle.mx_words.specs.FirstFit.{without_block, block_words, most_blocks};
 ghost use Rattle.mx_words.specs.Limits.{most_modules};
 ghost use Rattle.mx_heap.specs.HeapState.{LiesIn, area_of, may_live};
-ghost use Rattle.mx_supervisor.specs.Heaps.{told_heap, heap_in, heap_at, room_in, with_live, with_blocks_at, with_block_at};
+ghost use Rattle.mx_supervisor.specs.Heaps.{told_heap, heap_in, heap_at, room_in, with_live, with_blocks_at};
+ghost use Rattle.mx_supervisor.specs.Heaps.{with_block_at};
 ghost use Rattle.mx_supervisor.specs.Told.{IsTold};
 
 use arrayvec::ArrayVec;
@@ -203,7 +205,8 @@ fn nth_in(slot: &Option<Heap>, i: u32) -> Option<Block>
     }
 }
 
-/// A law: the blocks of each heap lie apart in its area and are at most 1024, and an area of no words is (0, 0). A machine's state
+/// A law: the blocks of each heap lie apart in its area and are at most 1024, and an area of no words is (0, 0). A
+/// machine's state
 /// is valid only with such heaps.
 pub fn heaps_of(heaps: &Heaps)
     ensures { (domain : ℕ) → IsTold (heap_at heaps.now domain) }

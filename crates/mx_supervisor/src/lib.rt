@@ -1,4 +1,5 @@
-//! The supervisor: it serves the calls by which modules change rights, owners, gates and their heaps, write to the console,
+//! The supervisor: it serves the calls by which modules change rights, owners, gates and their heaps, write to the
+//! console,
 //! exchange a word and end. It owns the checker, RAM, the owners of words, the gates, and one heap per module.
 #![tactic(auto)]
 

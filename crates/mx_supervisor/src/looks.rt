@@ -1,7 +1,8 @@
 //! The calls that look at words: write and exchange.
-ghost use Rattle.std.specs.Prelude.{◌≡◌, ℕ, ◌+◌, ◌-◌, ◌*◌, ◌<◌, ◌≤◌, ◌++◌, ◌∷◌, ◌||◌, nat_lt, [], not, true, false, length, take, drop, Some};
+ghost use Rattle.std.specs.Prelude.{◌≡◌, ℕ, ◌+◌, ◌-◌, ◌*◌, ◌<◌, ◌≤◌, ◌++◌, ◌∷◌, ◌||◌, nat_lt, [], not, true, false};
+ghost use Rattle.std.specs.Prelude.{length, take, drop, Some};
 ghost use Rattle.std.specs.List.{list_all, range_with_len};
-ghost use Rattle.mx_words.specs.Limits.{most_bytes};
+ghost use Rattle.mx_words.specs.Limits.{most_written};
 ghost use Rattle.mx_words.specs.Ranges.{ram_base, address_of};
 ghost use Rattle.mx_words.specs.Rights.{allows, perm_at};
 ghost use Rattle.mx_words.specs.declared.perm.Access.{Access};
@@ -11,7 +12,8 @@ ghost use Rattle.mx_table.specs.Tables.{IsDomain};
 ghost use Rattle.mx_check.specs.Conditions.{MayLook};
 ghost use Rattle.mx_model.specs.Checks.{arg, looked};
 ghost use Rattle.mx_model.specs.Reads.{Reads, flat_reads, map_in};
-ghost use Rattle.mx_model.specs.Serve.{may_read, look_of, write_outside, write_words, bytes_at, serve_write, serve_exchange};
+ghost use Rattle.mx_model.specs.Serve.{may_read, look_of, write_outside, write_words, bytes_at, serve_write};
+ghost use Rattle.mx_model.specs.Serve.{serve_exchange};
 ghost use Rattle.mx_model.specs.State.{Core};
 ghost use Rattle.mx_supervisor.specs.Looks.{HasLooked, HasRead};
 ghost use Rattle.mx_supervisor.specs.Parts.{parts_of, core_of, flat_of, IsSound};
@@ -21,13 +23,13 @@ use crate::answer::Refusal;
 use crate::{Answer, Supervisor};
 use mx_model::{Call, Events};
 use mx_table::PermTables;
-use mx_words::{Access, MOST_BYTES, RAM_BASE};
+use mx_words::{Access, MOST_WRITTEN, RAM_BASE};
 
 /// The place of a hart's caches that serves the accesses of supervisor calls.
 const PLACE: u32 = 10;
 
 /// How many bytes one call writes at most.
-const BYTES: u32 = MOST_BYTES as u32;
+const BYTES: u32 = MOST_WRITTEN as u32;
 
 impl<T: PermTables, const N: usize> Supervisor<T, N> {
     /// Call 2: bytes of RAM for the console.
@@ -91,7 +93,8 @@ impl<T: PermTables, const N: usize> Supervisor<T, N> {
         addr < RAM_BASE || addr - RAM_BASE > size || count > size - (addr - RAM_BASE)
     }
 
-    /// Whether the caller may read each word that the bytes touch. It looks at them from the lowest on, and stops at the first that
+    /// Whether the caller may read each word that the bytes touch. It looks at them from the lowest on, and stops at
+    /// the first that
     /// it may not read.
     fn may_read(&mut self, call: &Call, first: u32, behind: u32) -> bool
         requires sound { IsSound (parts_of T.PermTables self.old) }
@@ -131,7 +134,7 @@ impl<T: PermTables, const N: usize> Supervisor<T, N> {
     fn print(&self, addr: u32, count: u32, out: &mut Events)
         requires begins { ram_base ≤ addr }
         requires inside { addr + count ≤ ram_base + length self.now.ram }
-        requires few { count ≤ most_bytes }
+        requires few { count ≤ most_written }
         requires empty { out.old.bytes ≡ [] }
         ensures { out.new
             ≡ record out.old { bytes = take count (drop (addr - ram_base) self.now.ram) } }

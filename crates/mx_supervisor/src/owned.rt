@@ -1,5 +1,6 @@
 //! The calls on words of the caller: transfer, the gates at its words, and query.
-ghost use Rattle.std.specs.Prelude.{◌≡◌, ℕ, ◌+◌, ◌-◌, ◌<◌, ◌≤◌, ◌==◌, ◌&&◌, ◌||◌, not, [], true, false, length, slice_index};
+ghost use Rattle.std.specs.Prelude.{◌≡◌, ℕ, ◌+◌, ◌-◌, ◌<◌, ◌≤◌, ◌==◌, ◌&&◌, ◌||◌, not, [], true, false, length};
+ghost use Rattle.std.specs.Prelude.{slice_index};
 ghost use Rattle.mx_words.specs.Newest.{laid};
 ghost use Rattle.mx_words.specs.Ranges.{overlaps};
 ghost use Rattle.mx_table.specs.Tables.{IsDomain};
@@ -7,7 +8,8 @@ ghost use Rattle.mx_check.specs.Conditions.{MayLook};
 ghost use Rattle.mx_model.specs.Checks.{arg};
 ghost use Rattle.mx_model.specs.Gates.{with_gate, without_gate, has_gate, no_gate_fits};
 ghost use Rattle.mx_model.specs.Reads.{flat_reads};
-ghost use Rattle.mx_model.specs.Serve.{meets_heap, give_of, serve_transfer, serve_gate, serve_ungate, serve_return_gate, serve_query};
+ghost use Rattle.mx_model.specs.Serve.{meets_heap, give_of, serve_transfer, serve_gate, serve_ungate};
+ghost use Rattle.mx_model.specs.Serve.{serve_return_gate, serve_query};
 ghost use Rattle.mx_model.specs.State.{Core, is_module};
 ghost use Rattle.mx_supervisor.specs.Heaps.{heap_at};
 ghost use Rattle.mx_supervisor.specs.Parts.{parts_of, core_of, flat_of, IsSound};
@@ -195,7 +197,8 @@ impl<T: PermTables, const N: usize> Supervisor<T, N> {
         self.owners.give(domain, first, count).is_ok()
     }
 
-    /// Adds a gate in place of the one of its domain and word. False, with nothing changed, exactly where it doesn't fit.
+    /// Adds a gate in place of the one of its domain and word. False, with nothing changed, exactly where it doesn't
+    /// fit.
     fn try_gate(&mut self, gate: Gate) -> bool
         ensures fits { no_gate_fits self.old.gates gate.domain gate.word ≡ not result }
         ensures done { result ≡ true → parts_of T.PermTables self.new

@@ -8,7 +8,8 @@ ghost use Rattle.mx_words.specs.Limits.{most_modules, most_domains};
 ghost use Rattle.mx_words.specs.Calls.{grant_call, revoke_all_call, alloc_call, free_call};
 ghost use Rattle.mx_table.specs.Change.{IsLawful};
 ghost use Rattle.mx_table.specs.Tables.{IsDomain};
-ghost use Rattle.mx_model.specs.Serve.{to_one, none_but, own_alone, none_at_all, serve_grant, serve_revoke_all, serve_alloc, serve_free};
+ghost use Rattle.mx_model.specs.Serve.{to_one, none_but, own_alone, none_at_all, serve_grant, serve_revoke_all};
+ghost use Rattle.mx_model.specs.Serve.{serve_alloc, serve_free};
 ghost use Rattle.mx_supervisor.specs.Parts.{parts_of, IsSound};
 ghost use Rattle.mx_supervisor.specs.Rights.{Gives, none_else};
 ghost use Rattle.mx_supervisor.specs.Served.{range_of, IsIn, HasAnnounced, Does};
@@ -96,7 +97,8 @@ fn none_at_all(first: u32, count: u32, caller: u32, modules: u32) -> Change
 }
 
 impl<T: PermTables, const N: usize> Supervisor<T, N> {
-    /// Makes a change of the caller's ready call, inside its range. False, with nothing changed, exactly where the maps would then
+    /// Makes a change of the caller's ready call, inside its range. False, with nothing changed, exactly where the maps
+    /// would then
     /// exceed the tables' limit.
     fn try_change(&mut self, call: &Call, change: &Change) -> bool
         requires announced { HasAnnounced (parts_of T.PermTables self.old) call.now }

@@ -12,7 +12,8 @@ ghost use Rattle.mx_model.specs.Valid.{IsGate};
 ghost use Rattle.mx_supervisor.specs.Heaps.{heap_at};
 ghost use Rattle.mx_supervisor.specs.Looks.{KeepsHarts};
 ghost use Rattle.mx_supervisor.specs.Parts.{Parts, parts_of, AreJoined, IsSound};
-ghost use Rattle.mx_supervisor.specs.Served.{range_of, MayServe, ServesAs, IsSpared, KeepsSizes, Does, flight_after, served_row, HasAnnounced, Meets};
+ghost use Rattle.mx_supervisor.specs.Served.{range_of, MayServe, ServesAs, IsSpared, KeepsSizes, Does, flight_after};
+ghost use Rattle.mx_supervisor.specs.Served.{served_row, HasAnnounced, Meets};
 ghost use Rattle.mx_supervisor.specs.Answers.{is_refusal};
 
 use crate::answer::Refusal;
@@ -27,7 +28,8 @@ use mx_model::{Call, Events, Gate};
 use mx_owners::Owners;
 use mx_table::PermTables;
 
-/// The checker of all accesses, RAM, the owners of its words, the gates, and one heap per module, an empty one where a module has
+/// The checker of all accesses, RAM, the owners of its words, the gates, and one heap per module, an empty one where a
+/// module has
 /// none. Checker, RAM and owners have the same number of words.
 #[derive(Drop)]
 pub struct Supervisor<T: PermTables, const N: usize> {
@@ -44,7 +46,8 @@ pub struct Supervisor<T: PermTables, const N: usize> {
 }
 
 impl<T: PermTables, const N: usize> Supervisor<T, N> {
-    /// Joins the parts. Checker, RAM and owners have the same number of words, there is one heap per module, whose area lies in RAM,
+    /// Joins the parts. Checker, RAM and owners have the same number of words, there is one heap per module, whose area
+    /// lies in RAM,
     /// and each gate is for a word of RAM and between modules.
     pub fn new(
         checker: Checker<T, N>,
@@ -81,8 +84,10 @@ impl<T: PermTables, const N: usize> Supervisor<T, N> {
         }
     }
 
-    /// The range that a call may change, which is announced for it: the first word and the number of words. For calls 3 and 4 it
-    /// is the range of a0 and a1, for calls 6 and 7 the caller's heap area, and (0, 0) for nothing. The number is one of these.
+    /// The range that a call may change, which is announced for it: the first word and the number of words. For calls 3
+    /// and 4 it
+    /// is the range of a0 and a1, for calls 6 and 7 the caller's heap area, and (0, 0) for nothing. The number is one
+    /// of these.
     pub fn announced(&self, call: &Call) -> (u32, u32)
         requires joined { AreJoined (parts_of T.PermTables self.now) }
         requires announced { is_announced call.now.number ≡ true }
@@ -95,8 +100,10 @@ impl<T: PermTables, const N: usize> Supervisor<T, N> {
         announced_range(call.number, addr, size, words, self.heaps.area(call.domain))
     }
 
-    /// Serves a call (docs/MACHINE.md, "Supervisor calls"). A call 3, 4, 6 or 7 was announced with its range and is ready, and is
-    /// no longer in flight afterwards; for another call the hart may look at words in its domain. No console bytes stand in `out`,
+    /// Serves a call (docs/MACHINE.md, "Supervisor calls"). A call 3, 4, 6 or 7 was announced with its range and is
+    /// ready, and is
+    /// no longer in flight afterwards; for another call the hart may look at words in its domain. No console bytes
+    /// stand in `out`,
     /// and those of the call are put there.
     pub fn serve(&mut self, call: &Call, out: &mut Events) -> Answer
         requires joined { AreJoined (parts_of T.PermTables self.old) }
@@ -160,7 +167,8 @@ impl<T: PermTables, const N: usize> Supervisor<T, N> {
         self.gates.get(i)
     }
 
-    /// The live block of a domain at place `i`, in the order of their addresses. `None` exactly where no more than `i` live.
+    /// The live block of a domain at place `i`, in the order of their addresses. `None` exactly where no more than `i`
+    /// live.
     pub fn block(&self, domain: u32, i: u32) -> Option<Block>
         requires { IsDomain (T.maps self.now.checker.tables) domain }
         ensures { option_map area_of result ≡ slice_get (heap_at self.now.heaps domain).blocks i }

@@ -1,5 +1,6 @@
 //! Tests of calls, each as the model's.
-ghost use Rattle.std.specs.Prelude.{◌≡◌, ℕ, ◌+◌, ◌<◌, ◌≤◌, ◌==◌, ◌↔◌, true, not, ◌&&◌, ◌||◌, IfSome, IsTrue, is_some, length, slice_index};
+ghost use Rattle.std.specs.Prelude.{◌≡◌, ℕ, ◌+◌, ◌<◌, ◌≤◌, ◌==◌, ◌↔◌, true, not, ◌&&◌, ◌||◌, IfSome, IsTrue, is_some};
+ghost use Rattle.std.specs.Prelude.{length, slice_index};
 ghost use Rattle.std.specs.Option.{option_map};
 ghost use Rattle.mx_words.specs.Ranges.{address_of, most_words};
 ghost use Rattle.mx_heap.specs.HeapState.{LiesIn};
@@ -32,8 +33,10 @@ pub fn names_range(number: u32) -> bool
     number == GRANT_CALL || number == REVOKE_ALL_CALL
 }
 
-/// The range that an announced call may change, in a RAM of `words` words, at most 2^24: the first word and the number of words.
-/// For calls 3 and 4 it is the range of a0 and a1, (0, 0) where that is no range; for calls 6 and 7 the caller's heap area. The
+/// The range that an announced call may change, in a RAM of `words` words, at most 2^24: the first word and the number
+/// of words.
+/// For calls 3 and 4 it is the range of a0 and a1, (0, 0) where that is no range; for calls 6 and 7 the caller's heap
+/// area. The
 /// number is one of these (docs/MACHINE.md, "Announced calls").
 pub fn announced_range(number: u32, a0: u32, a1: u32, words: u32, heap: Block) -> (u32, u32)
     requires announced { is_announced number ≡ true }

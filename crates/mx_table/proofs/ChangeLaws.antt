@@ -10,7 +10,8 @@ use Rattle.mx_words.specs.Changes.{grant_of}
 use Rattle.mx_words.proofs.OverlayLaws.{laid_at_in, laid_at_below, laid_at_behind, laid_is}
 
 -- a permission laid over words that have it changes nothing
-pub laid_already : (m : List Perm) (first count : ℕ) (p : Perm) → ((k : ℕ) → first ≤ k → k < first + count → perm_at m k ≡ p) → laid (grant_of first count p) m ≡ m
+pub laid_already : (m : List Perm) (first count : ℕ) (p : Perm) → ((k : ℕ) → first ≤ k → k < first + count → perm_at m k ≡ p)
+    → laid (grant_of first count p) m ≡ m
 laid_already m first count p had =
     let e : Grant = grant_of first count p in
     sym (laid_is e m m refl (λ i d lt. elim (cases_lt i first) [

@@ -1,5 +1,6 @@
 -- Changes that name only the domains of their tables.
-use Rattle.std.proofs.Common.{◌≡◌, ◌≢◌, ℕ, zero, suc, ◌<◌, ◌≤◌, ◌⊎◌, inl, inr, List, get_or, set, replicate, Option, None, refl, ◌∙◌, arith, get_or-set_other}
+use Rattle.std.proofs.Common.{◌≡◌, ◌≢◌, ℕ, zero, suc, ◌<◌, ◌≤◌, ◌⊎◌, inl, inr, List, get_or, set, replicate, Option, None, refl, ◌∙◌, arith}
+use Rattle.std.proofs.Common.{get_or-set_other}
 use Rattle.mx_words.specs.declared.perm.Perm.{Perm}
 use Rattle.mx_table.specs.Names.{NamesUpTo}
 
@@ -14,7 +15,8 @@ pub names_none : (domains : ℕ) → NamesUpTo domains (replicate 64 None)
 names_none domains d other = everywhere 64 d None
 
 -- one domain more is named
-pub names_more : (domains : ℕ) (perms : List (Option Perm)) (i : ℕ) (o : Option Perm) → 1 ≤ i → i ≤ domains → NamesUpTo domains perms → NamesUpTo domains (set perms i o)
+pub names_more : (domains : ℕ) (perms : List (Option Perm)) (i : ℕ) (o : Option Perm) → 1 ≤ i → i ≤ domains → NamesUpTo domains perms
+    → NamesUpTo domains (set perms i o)
 names_more domains perms i o first last names d other = get_or-set_other perms i d o None (apart other) ∙ names d other
   where
     apart : (d ≡ 0) ⊎ (domains < d) → d ≢ i

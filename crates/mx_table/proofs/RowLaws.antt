@@ -1,5 +1,7 @@
 -- The spans of a row: their order, and the maps of the first of them.
-use Rattle.std.proofs.Common.{◌≡◌, ℕ, zero, suc, ◌+◌, ◌-◌, ◌<◌, ◌≤◌, List, [], ◌∷◌, ◌++◌, length, get_or, slice_get, Some, take, drop, fold, refl, sym, ◌∙◌, ap, subst, arith, inl, inr, ◌⊎◌, take-append-drop, length-take, length-drop, get_or-take, get_or-drop}
+use Rattle.std.proofs.Common.{◌≡◌, ℕ, zero, suc, ◌+◌, ◌-◌, ◌<◌, ◌≤◌, List, [], ◌∷◌, ◌++◌, length, get_or, slice_get, Some, take, drop, fold}
+use Rattle.std.proofs.Common.{refl, sym, ◌∙◌, ap, subst, arith, inl, inr, ◌⊎◌, take-append-drop, length-take, length-drop, get_or-take}
+use Rattle.std.proofs.Common.{get_or-drop}
 use Rattle.std.proofs.Common.{map as list_map}
 use Rattle.std.proofs.lemmas.Bool.{cases_lt}
 use Rattle.std.proofs.lemmas.List.{map-append, take_more, take_all, get_or_past}
@@ -25,7 +27,8 @@ kept_by : (i : ℕ) (older : Perm) (s : Span) → (i < s.first) ⊎ (s.first + s
 kept_by i older s (inl lt) = laid_at_below i older (granted s) lt
 kept_by i older s (inr le) = laid_at_behind i older (granted s) le
 
-kept_by_all : (i : ℕ) (older : Perm) (row : List Span) → ((n : ℕ) → n < length row → (i < (span_at row n).first) ⊎ ((span_at row n).first + (span_at row n).count ≤ i)) →
+kept_by_all : (i : ℕ) (older : Perm) (row : List Span) → ((n : ℕ) → n < length row
+    → (i < (span_at row n).first) ⊎ ((span_at row n).first + (span_at row n).count ≤ i)) →
     fold (laid_at i) older (list_map granted row) ≡ older
 kept_by_all i older [] far = refl
 kept_by_all i older (s ∷ row) far =
@@ -98,7 +101,8 @@ module _ (words : ℕ) (row : List Span) (is : IsRow words row) where
   alike_before n i le before =
       let within = ends_within n le in
       let lt : i < words = omega arith in
-      map-at (list_map granted row) words i P.None lt ∙ same_before n i le before ∙ sym (map-at (list_map granted (take n row)) words i P.None lt)
+      map-at (list_map granted row) words i P.None lt ∙ same_before n i le before
+      ∙ sym (map-at (list_map granted (take n row)) words i P.None lt)
 
   pub length-first : (n : ℕ) → length (first_spans words row n) ≡ words
   length-first n = length-map_of (list_map granted (take n row)) words

@@ -2,6 +2,7 @@
 use Rattle.std.specs.Prelude.{◌≡◌, ℕ, ◌+◌, ◌-◌, ◌<◌, ◌≤◌, List, [], slice_index_or, length, IsTrue, IsFalse}
 use Rattle.std.specs.Prelude.{map as list_map}
 pub use Rattle.mx_words.specs.Limits.{most_modules}
+use Rattle.mx_words.specs.Limits.{most_upper, most_leaf, most_spill}
 pub use Rattle.mx_words.specs.Ranges.{most_words}
 use Rattle.mx_words.specs.declared.perm.Perm.{Perm}
 use Rattle.mx_words.specs.declared.perm.Perm.TheVariants as P
@@ -24,9 +25,9 @@ pub record IsDomain (maps : List (List Perm)) (d : ℕ) : Type 0 where
 
 -- a limit that a manifest may give
 pub record IsLimit (limit : Need) : Type 0 where
-  pub upper : limit.upper ≤ 4096
-  pub leaf : limit.leaf ≤ 262144
-  pub spill : limit.spill ≤ 1048576
+  pub upper : limit.upper ≤ most_upper
+  pub leaf : limit.leaf ≤ most_leaf
+  pub spill : limit.spill ≤ most_spill
 
 -- what the maps of tables always are: 1 to most_modules of them, each with one permission for each of the words, and within the
 -- limit
@@ -39,6 +40,13 @@ pub record IsShaped (kind : Kind) (words : ℕ) (limit : Need) (maps : List (Lis
   pub each : (d : ℕ) → IsDomain maps d → length (map_of maps d) ≡ words
   pub limited : IsLimit limit
   pub fit : IsTrue (fits kind limit maps)
+
+-- tables after a step that leaves their maps, their size and their limit as they were
+pub record KeepsTables {T : Type 0} (maps : T → List (List Perm)) (size : T → ℕ) (limits : T → Need)
+    (old new : T) : Type 0 where
+  pub same_maps : maps new ≡ maps old
+  pub same_size : size new ≡ size old
+  pub same_limit : limits new ≡ limits old
 
 -- a row's spans as grants, and its map
 abbrev pub granted : Span → Grant

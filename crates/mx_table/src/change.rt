@@ -8,7 +8,8 @@ pub struct Change {
     pub first: u32,
     /// The number of words, at least 1.
     pub count: u32,
-    /// By domain number, the permission that it gets on the range; where nothing stands, the domain keeps its own. Domain 0, the
+    /// By domain number, the permission that it gets on the range; where nothing stands, the domain keeps its own.
+    /// Domain 0, the
     /// supervisor, has no map: nothing stands at 0.
     pub perms: [Option<Perm>; MOST_DOMAINS],
 }

@@ -9,14 +9,17 @@ ghost use Rattle.mx_words.specs.Need.{need, within, fits};
 ghost use Rattle.mx_words.specs.Reach.{span, stored};
 ghost use Rattle.mx_words.specs.Caches.{raised};
 ghost use Rattle.mx_table.specs.Change.{IsLawful, changed};
-ghost use Rattle.mx_table.specs.Tables.{most_words, most_modules, map_of, IsDomain, IsLimit, IsShaped, IsRow, row_map, IsRefused};
+ghost use Rattle.mx_table.specs.Tables.{most_words, most_modules, map_of, IsDomain, IsLimit, IsShaped, IsRow, row_map};
+ghost use Rattle.mx_table.specs.Tables.{IsRefused, KeepsTables};
 
 use crate::{BuildRefused, Change};
 use mx_words::{Need, Perm, Shown, Span, Spans};
 use std::alloc::Global;
 
-/// The permissions of all protection domains, 1 to `modules()`, on all words of RAM, 0 to `words()` - 1. What tables mean is their
-/// kind, one map per domain, a limit, and how many lookups were made. A domain and a word that a call takes are in these ranges.
+/// The permissions of all protection domains, 1 to `modules()`, on all words of RAM, 0 to `words()` - 1. What tables
+/// mean is their
+/// kind, one map per domain, a limit, and how many lookups were made. A domain and a word that a call takes are in
+/// these ranges.
 pub trait PermTables: Sized {
     // The kind of tables, the same for all values of the type.
     ghost kind: { Kind };
@@ -33,8 +36,10 @@ pub trait PermTables: Sized {
     // How many lookups were made, up to 2^64 - 1.
     ghost lookups: { Self → ℕ };
 
-    /// Builds tables for 1 to `MODULES` rows over a RAM of `words` words, 1 to 2^24. Row `i` holds the permissions of domain
-    /// `i + 1`: its spans aren't empty, are sorted and disjoint, and lie in RAM; other words have permission none. Each part of the
+    /// Builds tables for 1 to `MODULES` rows over a RAM of `words` words, 1 to 2^24. Row `i` holds the permissions of
+    /// domain
+    /// `i + 1`: its spans aren't empty, are sorted and disjoint, and lie in RAM; other words have permission none. Each
+    /// part of the
     /// limit is at most 4096, 262144 and 1048576. `TablesFull` exactly where the maps need more than the limit.
     fn build(alloc: Global, words: u32, rows: &[Spans], limit: Need) -> Result<Self, BuildRefused>
         requires some_words { 1 ≤ words }
@@ -56,9 +61,7 @@ pub trait PermTables: Sized {
         requires word { word < size self.old }
         ensures found { result ≡ span kind (map_of (maps self.old) domain) word }
         ensures counted { lookups self.new ≡ raised (lookups self.old) }
-        ensures same_maps { maps self.new ≡ maps self.old }
-        ensures same_size { size self.new ≡ size self.old }
-        ensures same_limit { limits self.new ≡ limits self.old };
+        ensures same_tables { KeepsTables maps size limits self.old self.new };
 
     /// What `lookup` answers for the word. It is not counted, and nothing changes.
     fn span(&self, domain: u32, word: u32) -> Span
@@ -112,7 +115,8 @@ pub trait PermTables: Sized {
     ghost shaped: { (t : Self) → IsShaped kind (size t) (limits t) (maps t) };
 }
 
-/// A law: tables of every kind have 1 to `MODULES` maps, each with one permission for each of the 1 to 2^24 words, and they fit
+/// A law: tables of every kind have 1 to `MODULES` maps, each with one permission for each of the 1 to 2^24 words, and
+/// they fit
 /// the limit.
 pub fn shape_of<T: PermTables>(tables: &T)
     ensures { IsShaped T.kind (T.size tables.now) (T.limits tables.now) (T.maps tables.now) }

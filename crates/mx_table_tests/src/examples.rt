@@ -119,7 +119,8 @@ fn single_words(alloc: Global, step: u32, count: u32) -> Result<Spans, NoMemory>
     row(alloc, word, step, count)
 }
 
-/// What a trie takes of which domain 1 may read word 0, and then whether each of three grants had room and what is taken after it:
+/// What a trie takes of which domain 1 may read word 0, and then whether each of three grants had room and what is
+/// taken after it:
 /// read on the first word of the next page, none on word 0, and the first grant once more.
 fn one_page_at_a_time<T: PermTables>(tables: &mut T) -> [(bool, Need); 4]
     requires one { length (T.maps tables.old) ≡ 1 }
@@ -154,8 +155,10 @@ fn a_full_trie_takes_a_page_where_another_becomes_even(rt: HostRuntime) {
     assert_eq!(rt; [multilevel, packed], [Some(ONE_PAGE_AT_A_TIME); 2]);
 }
 
-/// What segments take of which domain 1 may read 32 words, each two words after the one before, and then whether each of five grants
-/// had room and what is taken after it: read on the word after these, none on word 0, the first once more, none on the second of the
+/// What segments take of which domain 1 may read 32 words, each two words after the one before, and then whether each
+/// of five grants
+/// had room and what is taken after it: read on the word after these, none on word 0, the first once more, none on the
+/// second of the
 /// words, and the first once more.
 fn one_run_at_a_time(alloc: Global) -> Option<[(bool, Need); 6]> {
     let row = single_words(alloc, 2, 32).ok()?;
@@ -179,7 +182,8 @@ const ONE_RUN_AT_A_TIME: [(bool, Need); 6] = [
     (true, ONE_FRAME),
 ];
 
-// 32 words apart, with read, and what lies after each: 64 runs, which fill a frame. One more such word makes 66 runs, one fewer 62.
+// 32 words apart, with read, and what lies after each: 64 runs, which fill a frame. One more such word makes 66 runs,
+// one fewer 62.
 // Without word 0 there are 63, since the words from 0 on to the next one become the first run.
 #[test]
 fn full_segments_take_a_run_where_others_join(rt: HostRuntime) -> Result<(), Fail> {
@@ -236,7 +240,8 @@ fn line(first: u32, stored: u32) -> Shown {
     }
 }
 
-/// The entries of two lines at the end of a page and the beginning of the next, of which domain 1 may read words up to that end's
+/// The entries of two lines at the end of a page and the beginning of the next, of which domain 1 may read words up to
+/// that end's
 /// line: the first line's, whether read on the first word of the second had room, and both lines' after it.
 fn over_a_page<T: PermTables + Drop>(alloc: Global) -> Option<(Shown, bool, [Shown; 2])> {
     let row = one_span(alloc, 976, 37, Perm::Read).ok()?;
@@ -253,7 +258,8 @@ fn an_entry_reaches_over_a_page(rt: HostRuntime) {
     assert_eq!(rt; seen, Some((line(1008, 0xFFC0_1406), true, after)));
 }
 
-/// Gives domain 1 a permission on a word of the line from word 16 on. The answer is whether there was room, the item that decides the
+/// Gives domain 1 a permission on a word of the line from word 16 on. The answer is whether there was room, the item
+/// that decides the
 /// line then, and how many spill words are taken.
 fn spilled<T: PermTables>(tables: &mut T, word: u32, perm: Perm) -> (bool, Shown, u32)
     requires one { length (T.maps tables.old) ≡ 1 }
@@ -266,7 +272,8 @@ fn spilled<T: PermTables>(tables: &mut T, word: u32, perm: Perm) -> (bool, Shown
     (room, tables.shown(1, 16), tables.used().spill)
 }
 
-/// Whether a line had room for a third run, and what `spilled` answers when it gets a fourth, then a fifth, and loses that again. The
+/// Whether a line had room for a third run, and what `spilled` answers when it gets a fourth, then a fifth, and loses
+/// that again. The
 /// line had one run of no permission before.
 fn spilled_and_back<T: PermTables + Drop>(
     alloc: Global,
@@ -358,7 +365,8 @@ fn segments_tell_what_they_hold(rt: HostRuntime) {
 
 /// The word at a place of domain 1's root table.
 fn in_root(tables: &Trie<Vector>, place: u32) -> u32
-    requires one { length (read_maps K.Multilevel tables.now.upper tables.now.leaf tables.now.spill tables.now.words tables.now.roots) ≡ 1 }
+    requires one { length (read_maps K.Multilevel tables.now.upper tables.now.leaf tables.now.spill tables.now.words
+        tables.now.roots) ≡ 1 }
     requires place { place < 1024 }
 {
     let root = tables.roots.get(1);
@@ -373,7 +381,8 @@ fn wide_domain<T: PermTables>(alloc: Global, row: Spans) -> Result<T, BuildRefus
     mx_plain::one_domain(alloc, 0x20_0000, row, AMPLE)
 }
 
-/// The words at three places of a root table: of the first 2^20 words of RAM, on which domain 1 has read, of as many after them, on
+/// The words at three places of a root table: of the first 2^20 words of RAM, on which domain 1 has read, of as many
+/// after them, on
 /// which it has read-write, and at place 0.
 fn in_root_of_two_regions(alloc: Global) -> Option<[u32; 3]> {
     let row = two_regions(alloc).ok()?;

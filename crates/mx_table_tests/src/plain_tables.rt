@@ -135,7 +135,8 @@ fn plain_segments(rt: HostRuntime) {
     assert_eq!(rt; seen, Some((need, [code, data, last], (SIZE, 2, LIMIT))));
 }
 
-// What tables take, and what is read of a word of an even line, of words between and in the spans of other lines, and of each
+// What tables take, and what is read of a word of an even line, of words between and in the spans of other lines, and
+// of each
 // domain's last word.
 fn read_of_multilevel<T: PermTables + Drop>(alloc: Global) -> Option<(Need, [Reading; 5])> {
     let mut tables = two_domains::<T>(alloc)?;

@@ -3,8 +3,10 @@ use mx_pool::Pool;
 use std::alloc::Global;
 use std::test::Fail;
 
-/// How many frames of a pool of one are free, how many once it is taken, the last word written there, how many are free once the
-/// frame is given back, and its last word when it is taken again. `None` where no frame is there to take, or another one.
+/// How many frames of a pool of one are free, how many once it is taken, the last word written there, how many are free
+/// once the
+/// frame is given back, and its last word when it is taken again. `None` where no frame is there to take, or another
+/// one.
 fn taken_and_given(pool: &mut Pool<64>) -> Option<[u32; 5]> {
     let before = pool.free_frames();
     let first = pool.take()?;

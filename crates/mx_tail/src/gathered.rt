@@ -18,7 +18,8 @@ pub fn put_line<S: Sink>(sink: &mut S, pieces: &[Piece<'_>]) -> Result<(), Faile
     tail.end(sink)
 }
 
-/// Puts the texts of the pieces through a buffer, one after another. Pieces of 4096 bytes leave for the sink, and what is after them
+/// Puts the texts of the pieces through a buffer, one after another. Pieces of 4096 bytes leave for the sink, and what
+/// is after them
 /// is held.
 pub fn put_pieces<R: Sink>(
     tail: &mut Tail,

@@ -1,4 +1,5 @@
-//! A buffer before a sink, through which texts leave in writes of 4096 bytes. No call takes memory. A call that puts a text answers
+//! A buffer before a sink, through which texts leave in writes of 4096 bytes. No call takes memory. A call that puts a
+//! text answers
 //! `Failed` only where its sink did: then the sink's count of faults rose, and a prefix of what was to leave was put.
 #![tactic(auto)]
 

@@ -11,7 +11,8 @@ use std::marker::Model;
 /// How many bytes leave at once.
 const PIECE: usize = 4096;
 
-/// The bytes that were added and haven't left for the sink yet: fewer than 4096. It is used before one sink, and no more after a call
+/// The bytes that were added and haven't left for the sink yet: fewer than 4096. It is used before one sink, and no
+/// more after a call
 /// that failed.
 #[derive(Drop)]
 pub struct Tail {

@@ -111,7 +111,8 @@ fn each_write_to_the_dump_fails(rt: HostRuntime) -> Result<(), Fail> {
     Ok(())
 }
 
-/// A module that calls a gate again and again, after which another one faults at once: a fault at each fourth turn. The text is
+/// A module that calls a gate again and again, after which another one faults at once: a fault at each fourth turn. The
+/// text is
 /// what the report has after the lines of 100 faults.
 pub const FAULTS: Example = Example {
     name: "a fault in each call",

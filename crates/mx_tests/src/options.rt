@@ -30,7 +30,8 @@ counts 0 sidecar=1 lookaside=0 walks=1\n";
 /// An option with the word that follows it, if any.
 type Choice = &'static [&'static str];
 
-/// The options of `run`, but for `--save`, which has no meaning beside `--dump`. The schedule names no hart first, then hart 0 twice.
+/// The options of `run`, but for `--save`, which has no meaning beside `--dump`. The schedule names no hart first, then
+/// hart 0 twice.
 const OF_RUN: [Choice; 4] = [
     &["--schedule", "order"],
     &["--dump"],
@@ -41,7 +42,8 @@ const OF_RUN: [Choice; 4] = [
 /// The options of `trace`.
 const OF_TRACE: [Choice; 3] = [&["--schedule", "order"], &["--from", "2"], &["--effects"]];
 
-/// Puts options into the order of this number: one of those that are left stands at each place in turn. The numbers below n! give each
+/// Puts options into the order of this number: one of those that are left stands at each place in turn. The numbers
+/// below n! give each
 /// order of n options once.
 fn arrange(options: &mut [Choice], number: usize) {
     let mut number = number;

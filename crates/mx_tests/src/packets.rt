@@ -1,4 +1,5 @@
-//! The sources of three modules: a driver sends packets to a protocol module, which sums each and has a console module write a line.
+//! The sources of three modules: a driver sends packets to a protocol module, which sums each and has a console module
+//! write a line.
 
 /// Sends 350 packets and leaves.
 pub const DRIVER: &str =

@@ -36,7 +36,8 @@ fn trace_first(
     ))
 }
 
-/// Traces the machine of an example by these words, and compares what the report gets; the console and the dump get nothing.
+/// Traces the machine of an example by these words, and compares what the report gets; the console and the dump get
+/// nothing.
 fn show_trace(
     rt: &impl Abort,
     alloc: Global,
@@ -306,7 +307,8 @@ turn 7 0 1 0x8000000c trapped ebreak\n\
 did fault=3/0x8000000c\n\
 end steps=7 state=halted\n";
 
-/// A call that is announced, waits and takes effect; neither a turn that waits nor one of a halted hart has a second line.
+/// A call that is announced, waits and takes effect; neither a turn that waits nor one of a halted hart has a second
+/// line.
 const WAITING_DID: &str = "turn 6 0 1 0x80000014 called ecall\n\
 did asks=3\n\
 turn 7 0 1 0x80000014 waited ecall\n\

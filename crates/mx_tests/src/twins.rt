@@ -166,8 +166,10 @@ fn two_machines_are_compared_or_refused(rt: HostRuntime) -> Result<(), Fail> {
     Ok(())
 }
 
-/// A fourth module up to its last word, which the three others may not read: `lui t0, 2`, `addi t0, t0, -1`, `bne t0, zero, -4`,
-/// `lui a0, 0x80030`, `addi a0, a0, 44`, `addi a1, zero, 4`, `addi a2, zero, 1`, `addi a3, zero, 1`, `addi a7, zero, 3`, `ecall`,
+/// A fourth module up to its last word, which the three others may not read: `lui t0, 2`, `addi t0, t0, -1`, `bne t0,
+/// zero, -4`,
+/// `lui a0, 0x80030`, `addi a0, a0, 44`, `addi a1, zero, 4`, `addi a2, zero, 1`, `addi a3, zero, 1`, `addi a7, zero,
+/// 3`, `ecall`,
 /// `jal zero, 0`. After 8192 rounds it grants the driver a read of that word.
 const KEEPER: &str = "[[module]]\n\
 name = \"keeper\"\n\
@@ -185,7 +187,8 @@ entry = \"idle\"\n\
 [[hart]]\n\
 module = \"keeper\"\n";
 
-/// The files of two machines of the three modules and the keeper, whose last words are 1 and 2, with these harts. The second
+/// The files of two machines of the three modules and the keeper, whose last words are 1 and 2, with these harts. The
+/// second
 /// one's tables are of another kind.
 fn kept(alloc: Global, harts: &str) -> Result<Files, Fail> {
     let first = format!(in alloc; "{PACKED}{MODULES}{KEEPER}1]\n{DRIVER_HART}{harts}")?;
@@ -216,8 +219,10 @@ fn a_word_that_nobody_may_read_changes_no_packet(rt: HostRuntime) -> Result<(), 
     Ok(())
 }
 
-/// The keeper's hart makes its turn n at step 4 n. It has made 1 + 2 * 8192 turns in the loop and 6 more when its ECALL comes, turn
-/// 16392, at step 65568; the three others hear it, and at its next turn the driver may read the word. The keeper always may.
+/// The keeper's hart makes its turn n at step 4 n. It has made 1 + 2 * 8192 turns in the loop and 6 more when its ECALL
+/// comes, turn
+/// 16392, at step 65568; the three others hear it, and at its next turn the driver may read the word. The keeper always
+/// may.
 #[test]
 fn a_word_made_readable_ends_agreement_at_the_turn_that_grants_it(
     rt: HostRuntime,

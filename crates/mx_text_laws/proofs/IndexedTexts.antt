@@ -1,5 +1,6 @@
 -- A number before a register in brackets is read back.
-use Rattle.std.proofs.Common.{◌≡◌, ◌==◌, ℕ, suc, ◌+◌, ◌-◌, Bool, true, false, not, ◌||◌, List, [], ◌∷◌, ◌++◌, length, take, drop, refl, ap, sym, arith, Some, is_some, position, append_assoc, add-one}
+use Rattle.std.proofs.Common.{◌≡◌, ◌==◌, ℕ, suc, ◌+◌, ◌-◌, Bool, true, false, not, ◌||◌, List, [], ◌∷◌, ◌++◌, length, take, drop, refl, ap}
+use Rattle.std.proofs.Common.{sym, arith, Some, is_some, position, append_assoc, add-one}
 use Rattle.std.specs.List.{list_all}
 use Rattle.std.proofs.lemmas.Bool.{and_parts, and_from, lt-ltb, eq-eqb, or_right}
 use Rattle.std.proofs.lemmas.List.{length-append, take_at}
@@ -25,9 +26,11 @@ not_close (c ∷ cs) h =
     let p = and_parts (is_free c) (list_all is_free cs) h in
     and_from (not (c == 41)) (list_all (λ x. not (x == 41)) cs) (and_parts (not (c == 40)) (not (c == 41)) p.0).1 (not_close cs p.1)
 
-place-whole : (p : ℕ → Bool) (xs : List ℕ) (y : ℕ) (ys : List ℕ) → list_all (λ c. not (p c)) xs ≡ true → not (p y) ≡ false → position p (xs ++ y ∷ ys) ≡ Some (length xs)
+place-whole : (p : ℕ → Bool) (xs : List ℕ) (y : ℕ) (ys : List ℕ) → list_all (λ c. not (p c)) xs ≡ true → not (p y) ≡ false
+    → position p (xs ++ y ∷ ys) ≡ Some (length xs)
 place-whole p xs y ys h f =
-    rw (prefix-whole (λ c. not (p c)) xs y ys h f, lt-ltb (length xs) (length (xs ++ y ∷ ys)) (omega (arith, length-append xs (y ∷ ys)))) refl
+    rw (prefix-whole (λ c. not (p c)) xs y ys h f, lt-ltb (length xs) (length (xs ++ y ∷ ys)) (omega (arith, length-append xs (y ∷ ys))))
+    refl
 
 drop-more : (xs : List ℕ) (y : ℕ) (ys : List ℕ) (n : ℕ) → n ≡ length xs → drop (suc n) (xs ++ y ∷ ys) ≡ ys
 drop-more [] y ys n e = rw e refl
@@ -38,7 +41,8 @@ module _ (num : List ℕ) (z : Number) (r : ℕ) (number : IsNumber num z) (name
   open_at = place-whole (λ c. c == 40) num 40 (register r ++ 41 ∷ []) (not_open num number.free) refl
 
   before : list_all (λ c. not (c == 41)) (num ++ 40 ∷ register r) ≡ true
-  before = rw list_all-append (and_from (list_all (λ c. not (c == 41)) num) (list_all (λ c. not (c == 41)) (40 ∷ register r)) (not_close num number.free) (not_close (register r) named.free))
+  before = rw list_all-append (and_from (list_all (λ c. not (c == 41)) num) (list_all (λ c. not (c == 41)) (40 ∷ register r))
+      (not_close num number.free) (not_close (register r) named.free))
 
   split : num ++ 40 ∷ (register r ++ 41 ∷ []) ≡ (num ++ 40 ∷ register r) ++ 41 ∷ []
   split = sym (append_assoc num (40 ∷ register r) (41 ∷ []))
@@ -50,23 +54,37 @@ module _ (num : List ℕ) (z : Number) (r : ℕ) (number : IsNumber num z) (name
   unfolding name_between
   between =
       let whole : (length (num ++ 40 ∷ register r) + 1 == length (num ++ 40 ∷ (register r ++ 41 ∷ []))) ≡ true =
-      eq-eqb (length (num ++ 40 ∷ register r) + 1) (length (num ++ 40 ∷ (register r ++ 41 ∷ []))) (omega (arith, ap length split, length-append (num ++ 40 ∷ register r) (41 ∷ []))) in
-      let n : length (num ++ 40 ∷ register r) - (length num + 1) ≡ length (register r) = omega (arith, length-append num (40 ∷ register r)) in
-      let d : drop (length num + 1) (num ++ 40 ∷ (register r ++ 41 ∷ [])) ≡ register r ++ 41 ∷ [] = rw add-one (drop-more num 40 (register r ++ 41 ∷ []) (length num) refl) in
-      let t : trim (take (length (num ++ 40 ∷ register r) - (length num + 1)) (drop (length num + 1) (num ++ 40 ∷ (register r ++ 41 ∷ [])))) ≡ register r =
+      eq-eqb (length (num ++ 40 ∷ register r) + 1) (length (num ++ 40 ∷ (register r ++ 41 ∷ [])))
+      (omega (arith, ap length split, length-append (num ++ 40 ∷ register r) (41 ∷ []))) in
+      let n : length (num ++ 40 ∷ register r) - (length num + 1) ≡ length (register r) =
+      omega (arith, length-append num (40 ∷ register r)) in
+      let d : drop (length num + 1) (num ++ 40 ∷ (register r ++ 41 ∷ [])) ≡ register r ++ 41 ∷ [] =
+      rw add-one (drop-more num 40 (register r ++ 41 ∷ []) (length num) refl) in
+      let t : trim (take (length (num ++ 40 ∷ register r) - (length num + 1)) (drop (length num + 1) (num ++ 40 ∷ (register r ++ 41 ∷ []))))
+      ≡ register r =
       rw (n, d, take_at (register r) (41 ∷ []) (length (register r)) refl) (trim-solid (register r) named.part) in
       rw (whole, t, named.name) refl
 
   pub indexed-read : indexed_of (num ++ 40 ∷ (register r ++ 41 ∷ [])) ≡ Some (record { number = z; name = register r })
   unfolding indexed_of
-  indexed-read = rw (open_at, close_at, take_at num (40 ∷ (register r ++ 41 ∷ [])) (length num) refl, trim-solid num number.part, number.read, between) refl
+  indexed-read = rw (
+    open_at,
+    close_at,
+    take_at num (40 ∷ (register r ++ 41 ∷ [])) (length num) refl,
+    trim-solid num
+        number.part,
+    number.read,
+    between,
+  ) refl
 
   pub indexed-part : IsPart (num ++ 40 ∷ (register r ++ 41 ∷ []))
   indexed-part =
-      let inner : list_all is_solid (register r ++ 41 ∷ []) ≡ true = rw list_all-append (and_from (list_all is_solid (register r)) (list_all is_solid (41 ∷ [])) named.part.all refl) in
+      let inner : list_all is_solid (register r ++ 41 ∷ []) ≡ true =
+      rw list_all-append (and_from (list_all is_solid (register r)) (list_all is_solid (41 ∷ [])) named.part.all refl) in
       record {
         some = omega (arith, length-append num (40 ∷ (register r ++ 41 ∷ [])));
-        all = rw list_all-append (and_from (list_all is_solid num) (list_all is_solid (40 ∷ (register r ++ 41 ∷ []))) number.part.all inner);
+        all = rw list_all-append (and_from (list_all is_solid num) (list_all is_solid (40 ∷ (register r ++ 41 ∷ []))) number.part.all
+            inner);
       }
 
 or_middle : (a b c : Bool) → (a || true || b || c) ≡ true
@@ -80,4 +98,5 @@ pub operand-register : (r : ℕ) → IsRegister r → is_operand (register r) �
 operand-register r h = rw h.name refl
 
 pub operand-indexed : (text : List ℕ) (i : Indexed) → indexed_of text ≡ Some i → is_operand text ≡ true
-operand-indexed text i h = or_right (is_name text || is_some (number_of text) || is_some (text_of text)) (is_some (indexed_of text)) (ap is_some h)
+operand-indexed text i h = or_right (is_name text || is_some (number_of text) || is_some (text_of text)) (is_some (indexed_of text))
+    (ap is_some h)

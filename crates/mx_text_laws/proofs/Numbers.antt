@@ -1,5 +1,6 @@
 -- Numbers in decimal are read back.
-use Rattle.std.proofs.Common.{◌≡◌, ℕ, suc, ◌+◌, ◌-◌, ◌/◌, ◌%◌, ◌^◌, ◌<◌, ◌≤◌, Bool, true, false, ◌&&◌, List, [], ◌∷◌, ◌++◌, length, fold, refl, ap, ◌∙◌, arith, nat_eq, nat_le, Some, decimal, codes}
+use Rattle.std.proofs.Common.{◌≡◌, ℕ, suc, ◌+◌, ◌-◌, ◌/◌, ◌%◌, ◌^◌, ◌<◌, ◌≤◌, Bool, true, false, ◌&&◌, List, [], ◌∷◌, ◌++◌, length, fold}
+use Rattle.std.proofs.Common.{refl, ap, ◌∙◌, arith, nat_eq, nat_le, Some, decimal, codes}
 use Rattle.std.specs.Char.{is_ascii_digit}
 use Rattle.std.specs.List.{list_all, starts_with}
 use Rattle.std.proofs.lemmas.Bool.{leb-true, lt-ltb, le-leb, le-ltb, and_parts, and_from, ne_eqb, lt-leb}
@@ -33,7 +34,8 @@ more_digits : (n : ℕ) (ds : List ℕ) → 10 ≤ n → IsDecimal (n / 10) ds �
 more_digits n ds le h =
     record {
       some = omega (arith, h.some, length-append ds ((48 + n % 10) ∷ []));
-      digits = rw list_all-append (and_from (list_all is_ascii_digit ds) (list_all is_ascii_digit ((48 + n % 10) ∷ [])) h.digits (and_from (is_ascii_digit (48 + n % 10)) true (is_digit (n % 10) (omega arith)) refl));
+      digits = rw list_all-append (and_from (list_all is_ascii_digit ds) (list_all is_ascii_digit ((48 + n % 10) ∷ [])) h.digits
+          (and_from (is_ascii_digit (48 + n % 10)) true (is_digit (n % 10) (omega arith)) refl));
       value = rw (fold_push ds 0 (48 + n % 10), h.value) (omega arith);
     }
 
@@ -46,7 +48,14 @@ digit_solid c h =
     let p = and_parts (nat_le 48 c) (nat_le c 57) h in
     let low = leb-true 48 c p.0 in
     let high = leb-true c 57 p.1 in
-    rw (lt-ltb 32 c (omega arith), ne_eqb c 34 (λ z. omega (arith, z, low)), ne_eqb c 35 (λ z. omega (arith, z, low)), ne_eqb c 44 (λ z. omega (arith, z, low)), ne_eqb c 58 (λ z. omega (arith, z, high))) refl
+    rw (
+      lt-ltb 32 c (omega arith),
+      ne_eqb c 34 (λ z. omega (arith, z, low)),
+      ne_eqb c 35 (λ z. omega (arith, z, low)),
+      ne_eqb c 44 (λ z.
+          omega (arith, z, low)),
+      ne_eqb c 58 (λ z. omega (arith, z, high)),
+    ) refl
 
 digits_solid : (cs : List ℕ) → list_all is_ascii_digit cs ≡ true → list_all is_solid cs ≡ true
 digits_solid [] h = refl
@@ -76,7 +85,8 @@ not_hex : (ds : List ℕ) → list_all is_ascii_digit ds ≡ true → starts_wit
 not_hex [] h = refl
 not_hex (c ∷ []) h = elim (nat_eq 48 c) as (λ b. (b && false) ≡ false) [ true ↦ refl | false ↦ refl ]
 not_hex (c ∷ d ∷ ds) h =
-    let p = and_parts (is_ascii_digit d) (list_all is_ascii_digit ds) (and_parts (is_ascii_digit c) (list_all is_ascii_digit (d ∷ ds)) h).1 in
+    let p = and_parts (is_ascii_digit d) (list_all is_ascii_digit ds) (and_parts (is_ascii_digit c) (list_all is_ascii_digit (d ∷ ds)) h).1
+    in
     let high = leb-true d 57 (and_parts (nat_le 48 d) (nat_le d 57) p.0).1 in
     let e = ne_eqb 120 d (λ z. omega (arith, z, high)) in
     elim (nat_eq 48 c) as (λ b. (b && (nat_eq 120 d && true)) ≡ false) [ true ↦ rw e refl | false ↦ refl ]
@@ -115,7 +125,12 @@ digits_unnamed [] some h = absurd (omega arith)
 digits_unnamed (c ∷ cs) some h =
     let p = and_parts (is_ascii_digit c) (list_all is_ascii_digit cs) h in
     let high = leb-true c 57 (and_parts (nat_le 48 c) (nat_le c 57) p.0).1 in
-    let begins : begins_name c ≡ false = rw (lt-leb 65 c (omega arith), lt-leb 97 c (omega arith), ne_eqb c 95 (λ z. omega (arith, z, high))) refl in
+    let begins : begins_name c ≡ false = rw (
+      lt-leb 65 c (omega arith),
+      lt-leb 97 c (omega arith),
+      ne_eqb c 95 (λ z.
+          omega (arith, z, high)),
+    ) refl in
     middle_at (nat_le (length (c ∷ cs)) 64) (begins_name c) (list_all is_in_name (c ∷ cs)) begins
 
 minus_unnamed : (cs : List ℕ) → is_name (45 ∷ cs) ≡ false
@@ -132,12 +147,24 @@ pub record IsNumber (text : List ℕ) (z : Number) : Type 0 where
 pub plain-number : (n : ℕ) → n < 2 ^ 33 → IsNumber (decimal n) (plain_number n)
 plain-number n lt =
     let d = all_digits n (omega arith) in
-    record { part = decimal-part n (omega arith); free = digits_free (decimal n) d.digits; read = number-plain n lt; unnamed = digits_unnamed (decimal n) d.some d.digits }
+    record {
+      part = decimal-part n (omega arith);
+      free = digits_free (decimal n) d.digits;
+      read = number-plain n lt;
+      unnamed =
+          digits_unnamed (decimal n) d.some d.digits;
+    }
 
 pub negative-number : (n : ℕ) → n < 2 ^ 33 → IsNumber (45 ∷ decimal n) (negative_number n)
 negative-number n lt =
     let d = all_digits n (omega arith) in
-    record { part = record { some = omega arith; all = digits_solid (decimal n) d.digits }; free = digits_free (decimal n) d.digits; read = number-negative n lt; unnamed = minus_unnamed (decimal n) }
+    record {
+      part = record { some = omega arith; all = digits_solid (decimal n) d.digits };
+      free = digits_free (decimal n) d.digits;
+      read =
+          number-negative n lt;
+      unnamed = minus_unnamed (decimal n);
+    }
 
 -- 32 bits as a signed number
 pub low-text : (imm : ℕ) → imm < 2 ^ 31 → signed_text imm ≡ decimal imm

@@ -1,5 +1,6 @@
 -- The text of each instruction is read as that instruction.
-use Rattle.std.proofs.Common.{◌≡◌, ◌==◌, ℕ, ◌-◌, ◌*◌, ◌/◌, ◌%◌, ◌^◌, ◌<◌, ◌≤◌, ◌⊎◌, inl, inr, ⊎_elim, Bool, true, false, cond, not, ◌&&◌, ◌||◌, List, [], ◌∷◌, ◌++◌, length, refl, ap, arith, nat_le, Some, decimal}
+use Rattle.std.proofs.Common.{◌≡◌, ◌==◌, ℕ, ◌-◌, ◌*◌, ◌/◌, ◌%◌, ◌^◌, ◌<◌, ◌≤◌, ◌⊎◌, inl, inr, ⊎_elim, Bool, true, false, cond, not, ◌&&◌}
+use Rattle.std.proofs.Common.{◌||◌, List, [], ◌∷◌, ◌++◌, length, refl, ap, arith, nat_le, Some, decimal}
 use Rattle.std.specs.List.{list_all}
 use Rattle.std.proofs.lemmas.Bool.{and_from, le-leb, eq-eqb, cases_lt}
 use Rattle.std.proofs.lemmas.List.{append-nil}
@@ -14,7 +15,8 @@ use Rattle.mx_source.specs.declared.mnemonics.Form.TheVariants.{Lui, Auipc, Jal,
 use Rattle.mx_source.specs.Numbers.{number_bits, plain_number, negative_number, fits}
 use Rattle.mx_source.specs.Operands.{is_operand}
 use Rattle.mx_source.specs.Mnemonics.{form_name}
-use Rattle.mx_source.specs.Fields.{Fields, fields, Given, value_of, number_fields, value_fields, branch_fields, load_fields, store_fields, immediate_fields, register_fields, fence_fields, fields_of, range_of, no_value}
+use Rattle.mx_source.specs.Fields.{Fields, fields, Given, value_of, number_fields, value_fields, branch_fields, load_fields, store_fields}
+use Rattle.mx_source.specs.Fields.{immediate_fields, register_fields, fence_fields, fields_of, range_of, no_value}
 use Rattle.mx_asm.specs.Instructions.{inst_of}
 use Rattle.mx_trace.specs.Text.{signed_text, upper_text, jump_text, pair_text, indexed_text, register_text, fence_text, inst_text}
 use Rattle.mx_text_laws.proofs.Solid.{AreParts, joined}
@@ -42,7 +44,8 @@ pub record IsSigned (imm : ℕ) : Type 0 where
   pub z : Number
   pub number : IsNumber (signed_text imm) z
   pub bits : number_bits z ≡ imm
-  pub ranged : (low high : ℕ) (even : Bool) → high < 2 ^ 31 → low ≤ 2 ^ 31 → (imm ≤ high) ⊎ (2 ^ 32 - low ≤ imm) → (even ≡ true → imm % 2 ≡ 0) → fits (record { low = low; high = high; even = even }) z ≡ true
+  pub ranged : (low high : ℕ) (even : Bool) → high < 2 ^ 31 → low ≤ 2 ^ 31 → (imm ≤ high) ⊎ (2 ^ 32 - low ≤ imm)
+      → (even ≡ true → imm % 2 ≡ 0) → fits (record { low = low; high = high; even = even }) z ≡ true
 
 even_ok : (even : Bool) (m : ℕ) → (even ≡ true → m % 2 ≡ 0) → (not even || (m % 2 == 0)) ≡ true
 even_ok false m h = refl
@@ -54,7 +57,8 @@ signed_low imm lt =
       z = plain_number imm;
       number = rw (low-text imm lt) (plain-number imm (omega arith));
       bits = omega arith;
-      ranged = λ low high even a b r e. and_from (nat_le imm high) (not even || (imm % 2 == 0)) (le-leb imm high (⊎_elim (λ x. x) (λ x. omega arith) r)) (even_ok even imm e);
+      ranged = λ low high even a b r e. and_from (nat_le imm high) (not even || (imm % 2 == 0))
+          (le-leb imm high (⊎_elim (λ x. x) (λ x. omega arith) r)) (even_ok even imm e);
     }
 
 signed_high : (imm : ℕ) → 2 ^ 31 ≤ imm → imm < 2 ^ 32 → IsSigned imm
@@ -63,7 +67,8 @@ signed_high imm le lt =
       z = negative_number (2 ^ 32 - imm);
       number = rw (high-text imm le lt) (negative-number (2 ^ 32 - imm) (omega arith));
       bits = omega arith;
-      ranged = λ low high even a b r e. and_from (nat_le (2 ^ 32 - imm) low) (not even || ((2 ^ 32 - imm) % 2 == 0)) (le-leb (2 ^ 32 - imm) low (⊎_elim (λ x. omega arith) (λ x. omega arith) r))
+      ranged = λ low high even a b r e. and_from (nat_le (2 ^ 32 - imm) low) (not even || ((2 ^ 32 - imm) % 2 == 0))
+          (le-leb (2 ^ 32 - imm) low (⊎_elim (λ x. omega arith) (λ x. omega arith) r))
           (even_ok even (2 ^ 32 - imm) (λ t. let z = e t in omega arith));
     }
 
@@ -123,7 +128,11 @@ module _ (a b c : ℕ) (num : List ℕ) (z : Number) (ra : IsRegister a) (rb : I
   three_operands = rw (operand-register a ra, operand-register b rb, operand-number num z n) refl
 
   indexed_operands : list_all is_operand (register a ∷ (num ++ 40 ∷ (register b ++ 41 ∷ [])) ∷ []) ≡ true
-  indexed_operands = rw (operand-register a ra, operand-indexed (num ++ 40 ∷ (register b ++ 41 ∷ [])) (record { number = z; name = register b }) (indexed-read num z b n rb)) refl
+  indexed_operands = rw (
+    operand-register a ra,
+    operand-indexed (num ++ 40 ∷ (register b ++ 41 ∷ []))
+        (record { number = z; name = register b }) (indexed-read num z b n rb),
+  ) refl
 
   register_operands : list_all is_operand (register a ∷ register b ∷ register c ∷ []) ≡ true
   register_operands = rw (operand-register a ra, operand-register b rb, operand-register c rc) refl
@@ -137,15 +146,18 @@ text_jump : (form : Form) (rd imm : ℕ) → jump_text form rd imm ≡ form_name
 unfolding jump_text
 text_jump form rd imm = rw (append-nil (signed_text imm)) refl
 
-text_three : (form : Form) (a b imm : ℕ) → pair_text form a b imm ≡ form_name form ++ 32 ∷ joined (register a ∷ register b ∷ signed_text imm ∷ [])
+text_three : (form : Form) (a b imm : ℕ) → pair_text form a b imm ≡ form_name form ++ 32
+    ∷ joined (register a ∷ register b ∷ signed_text imm ∷ [])
 unfolding pair_text
 text_three form a b imm = rw (append-nil (signed_text imm)) refl
 
-text_indexed : (form : Form) (a imm b : ℕ) → indexed_text form a imm b ≡ form_name form ++ 32 ∷ joined (register a ∷ (signed_text imm ++ 40 ∷ (register b ++ 41 ∷ [])) ∷ [])
+text_indexed : (form : Form) (a imm b : ℕ) → indexed_text form a imm b ≡ form_name form ++ 32
+    ∷ joined (register a ∷ (signed_text imm ++ 40 ∷ (register b ++ 41 ∷ [])) ∷ [])
 unfolding indexed_text
 text_indexed form a imm b = refl
 
-text_registers : (form : Form) (a b c : ℕ) → register_text form a b c ≡ form_name form ++ 32 ∷ joined (register a ∷ register b ∷ register c ∷ [])
+text_registers : (form : Form) (a b c : ℕ) → register_text form a b c ≡ form_name form ++ 32
+    ∷ joined (register a ∷ register b ∷ register c ∷ [])
 unfolding register_text
 text_registers form a b c = rw (append-nil (decimal c)) refl
 
@@ -161,15 +173,24 @@ no_even imm h = cc
 
 -- the operand of an instruction with an immediate
 operand_bound : (op : ImmOp) (imm : ℕ) → IsOperand op imm → (s : IsSigned imm) × (fits (range_of (OpImm op)) s.z ≡ true)
-operand_bound Slli imm h = let s = signed imm (omega arith) in (s, s.ranged 0 31 false (omega arith) (omega arith) (inl (omega arith)) (no_even imm))
-operand_bound Srli imm h = let s = signed imm (omega arith) in (s, s.ranged 0 31 false (omega arith) (omega arith) (inl (omega arith)) (no_even imm))
-operand_bound Srai imm h = let s = signed imm (omega arith) in (s, s.ranged 0 31 false (omega arith) (omega arith) (inl (omega arith)) (no_even imm))
-operand_bound Addi imm h = let b = bound_12 imm h in let s = signed imm b.0 in (s, s.ranged 2048 2047 false (omega arith) (omega arith) b.1 (no_even imm))
-operand_bound Slti imm h = let b = bound_12 imm h in let s = signed imm b.0 in (s, s.ranged 2048 2047 false (omega arith) (omega arith) b.1 (no_even imm))
-operand_bound Sltiu imm h = let b = bound_12 imm h in let s = signed imm b.0 in (s, s.ranged 2048 2047 false (omega arith) (omega arith) b.1 (no_even imm))
-operand_bound Xori imm h = let b = bound_12 imm h in let s = signed imm b.0 in (s, s.ranged 2048 2047 false (omega arith) (omega arith) b.1 (no_even imm))
-operand_bound Ori imm h = let b = bound_12 imm h in let s = signed imm b.0 in (s, s.ranged 2048 2047 false (omega arith) (omega arith) b.1 (no_even imm))
-operand_bound Andi imm h = let b = bound_12 imm h in let s = signed imm b.0 in (s, s.ranged 2048 2047 false (omega arith) (omega arith) b.1 (no_even imm))
+operand_bound Slli imm h = let s = signed imm (omega arith) in
+    (s, s.ranged 0 31 false (omega arith) (omega arith) (inl (omega arith)) (no_even imm))
+operand_bound Srli imm h = let s = signed imm (omega arith) in
+    (s, s.ranged 0 31 false (omega arith) (omega arith) (inl (omega arith)) (no_even imm))
+operand_bound Srai imm h = let s = signed imm (omega arith) in
+    (s, s.ranged 0 31 false (omega arith) (omega arith) (inl (omega arith)) (no_even imm))
+operand_bound Addi imm h = let b = bound_12 imm h in let s = signed imm b.0 in
+    (s, s.ranged 2048 2047 false (omega arith) (omega arith) b.1 (no_even imm))
+operand_bound Slti imm h = let b = bound_12 imm h in let s = signed imm b.0 in
+    (s, s.ranged 2048 2047 false (omega arith) (omega arith) b.1 (no_even imm))
+operand_bound Sltiu imm h = let b = bound_12 imm h in let s = signed imm b.0 in
+    (s, s.ranged 2048 2047 false (omega arith) (omega arith) b.1 (no_even imm))
+operand_bound Xori imm h = let b = bound_12 imm h in let s = signed imm b.0 in
+    (s, s.ranged 2048 2047 false (omega arith) (omega arith) b.1 (no_even imm))
+operand_bound Ori imm h = let b = bound_12 imm h in let s = signed imm b.0 in
+    (s, s.ranged 2048 2047 false (omega arith) (omega arith) b.1 (no_even imm))
+operand_bound Andi imm h = let b = bound_12 imm h in let s = signed imm b.0 in
+    (s, s.ranged 2048 2047 false (omega arith) (omega arith) b.1 (no_even imm))
 
 upper_back : (imm : ℕ) → imm < 2 ^ 32 → imm % 2 ^ 12 ≡ 0 → number_bits (plain_number (imm / 4096)) * 4096 % 2 ^ 32 ≡ imm
 upper_back imm lt z = omega arith

@@ -14,7 +14,8 @@ abbrev pub register : ℕ → List ℕ
 register r = 120 ∷ decimal r
 
 abbrev is_read : ℕ → Bool
-is_read r = option_map_or (λ k. k == r) (register_of (register r)) false && is_name (register r) && list_all is_free (register r) && nat_lt 0 (length (register r)) && list_all is_solid (register r)
+is_read r = option_map_or (λ k. k == r) (register_of (register r)) false && is_name (register r) && list_all is_free (register r)
+    && nat_lt 0 (length (register r)) && list_all is_solid (register r)
 
 all_read : all_below 32 is_read ≡ true
 unfolding register_of is_name digits all_below
@@ -34,8 +35,15 @@ pub register-read : (r : ℕ) → r < 32 → IsRegister r
 register-read r lt =
     let h = all_below-at 32 r is_read all_read lt in
     let x = option_map_or (λ k. k == r) (register_of (register r)) false in
-    let a = and_parts (x && is_name (register r) && list_all is_free (register r) && nat_lt 0 (length (register r))) (list_all is_solid (register r)) h in
+    let a = and_parts (x && is_name (register r) && list_all is_free (register r) && nat_lt 0 (length (register r)))
+    (list_all is_solid (register r)) h in
     let b = and_parts (x && is_name (register r) && list_all is_free (register r)) (nat_lt 0 (length (register r))) a.0 in
     let e = and_parts (x && is_name (register r)) (list_all is_free (register r)) b.0 in
     let d = and_parts x (is_name (register r)) e.0 in
-    record { read = read_some (register_of (register r)) r d.0; name = d.1; free = e.1; part = record { some = ltb-true 0 (length (register r)) b.1; all = a.1 } }
+    record {
+      read = read_some (register_of (register r)) r d.0;
+      name = d.1;
+      free = e.1;
+      part =
+          record { some = ltb-true 0 (length (register r)) b.1; all = a.1 };
+    }

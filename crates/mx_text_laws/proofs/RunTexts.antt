@@ -20,7 +20,8 @@ unfolding report_of
 report-plain kept target options lines s e =
     ap (λ (text : List ℕ). lines ++ text) (closing-alike kept.names (end_of target s.core) options s (bare (plain s)) e refl)
 
-dump-plain : (kept : KeptPlan) (dump : Option Dump) (s : State) → dump ≢ Some D.Snapshot → dumped dump kept (flat s) ≡ dumped dump kept (flat (bare (plain s)))
+dump-plain : (kept : KeptPlan) (dump : Option Dump) (s : State) → dump ≢ Some D.Snapshot
+    → dumped dump kept (flat s) ≡ dumped dump kept (flat (bare (plain s)))
 dump-plain kept None s other = refl
 dump-plain kept (Some D.Ram) s other = refl
 dump-plain kept (Some D.Snapshot) s other = absurd (other refl)

@@ -1,5 +1,6 @@
 -- Texts without blanks, marks and quotes, as the words, registers and numbers of a statement are.
-use Rattle.std.proofs.Common.{◌≡◌, ◌==◌, ℕ, ◌+◌, ◌<◌, Bool, true, false, not, ◌&&◌, List, [], ◌∷◌, ◌++◌, length, map, reverse, refl, ap, sym, ◌∙◌, arith, nat_lt, zero-add, append_assoc}
+use Rattle.std.proofs.Common.{◌≡◌, ◌==◌, ℕ, ◌+◌, ◌<◌, Bool, true, false, not, ◌&&◌, List, [], ◌∷◌, ◌++◌, length, map, reverse, refl, ap}
+use Rattle.std.proofs.Common.{sym, ◌∙◌, arith, nat_lt, zero-add, append_assoc}
 use Rattle.std.specs.List.{list_all, onto_first, AllByRecursion}
 use Rattle.std.proofs.lemmas.Bool.{ltb-true, ne_eqb, and_parts, and_from, or_from, not-true}
 use Rattle.std.proofs.lemmas.List.{append-nil, reverse-append, reverse-reverse, length-append, length-reverse}
@@ -46,7 +47,8 @@ pub record IsPart (text : List ℕ) : Type 0 where
   pub all : list_all is_solid text ≡ true
 
 module _ (mark : ℕ) (away : (c : ℕ) → IsSolid c → (c == mark) ≡ false) where
-  pub mark-solid : (xs rest : List ℕ) → list_all is_solid xs ≡ true → mark_place mark Outside (xs ++ rest) ≡ length xs + mark_place mark Outside rest
+  pub mark-solid : (xs rest : List ℕ) → list_all is_solid xs ≡ true
+      → mark_place mark Outside (xs ++ rest) ≡ length xs + mark_place mark Outside rest
   mark-solid [] rest h = sym (zero-add (mark_place mark Outside rest))
   mark-solid (c ∷ cs) rest h =
       let p = and_parts (is_solid c) (list_all is_solid cs) h in
@@ -97,7 +99,8 @@ all_reverse : (xs : List ℕ) → list_all is_solid xs ≡ true → list_all is_
 all_reverse [] h = refl
 all_reverse (c ∷ cs) h =
     let p = and_parts (is_solid c) (list_all is_solid cs) h in
-    rw (reverse-append (c ∷ []) cs, list_all-append) (and_from (list_all is_solid (reverse cs)) (list_all is_solid (c ∷ [])) (all_reverse cs p.1) (and_from (is_solid c) true p.0 refl))
+    rw (reverse-append (c ∷ []) cs, list_all-append) (and_from (list_all is_solid (reverse cs)) (list_all is_solid (c ∷ []))
+    (all_reverse cs p.1) (and_from (is_solid c) true p.0 refl))
 
 pub end-solid : (xs o : List ℕ) → IsPart o → trim_end (xs ++ o) ≡ xs ++ o
 end-solid xs o h =
@@ -129,7 +132,13 @@ ending [] h more = absurd (omega arith)
 ending (o ∷ []) h more = record { front = []; last = o; is = refl; part = h.0 }
 ending (o ∷ p ∷ os) h more =
     let e = ending (p ∷ os) h.1 (omega arith) in
-    record { front = o ++ 44 ∷ 32 ∷ e.front; last = e.last; is = ap (λ l. o ++ 44 ∷ 32 ∷ l) e.is ∙ sym (append_assoc o (44 ∷ 32 ∷ e.front) e.last); part = e.part }
+    record {
+      front = o ++ 44 ∷ 32 ∷ e.front;
+      last = e.last;
+      is = ap (λ l. o ++ 44 ∷ 32 ∷ l) e.is
+          ∙ sym (append_assoc o (44 ∷ 32 ∷ e.front) e.last);
+      part = e.part;
+    }
 
 begin_at : (o : List ℕ) (os : List (List ℕ)) → AreParts (o ∷ os) → (c : ℕ) × (cs : List ℕ) × (joined (o ∷ os) ≡ c ∷ cs) × IsSolid c
 begin_at [] os h = absurd (omega (arith, h.0.some))

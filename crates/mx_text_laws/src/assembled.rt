@@ -7,7 +7,8 @@ ghost use Rattle.mx_image.specs.Image.{little_endian};
 ghost use Rattle.mx_asm.specs.Denoted.{program_of, first_fault};
 ghost use Rattle.mx_trace.specs.Text.{inst_text, text_source};
 
-/// The text of a valid instruction after the line `.text 0x80000000` has no fault, and denotes a program of one segment, whose four
+/// The text of a valid instruction after the line `.text 0x80000000` has no fault, and denotes a program of one
+/// segment, whose four
 /// bytes are the instruction's word. So `assemble` gives its image, or memory is wanting.
 pub fn text_is_assembled()
     ensures faultless { (i : Inst) → IsValid i → first_fault (text_source i) ≡ None }

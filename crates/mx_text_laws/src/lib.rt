@@ -1,4 +1,5 @@
-//! Laws of texts: the text of an instruction is assembled to it, and without `--counts` the texts of a run read no cache.
+//! Laws of texts: the text of an instruction is assembled to it, and without `--counts` the texts of a run read no
+//! cache.
 #![tactic(auto)]
 
 mod assembled;

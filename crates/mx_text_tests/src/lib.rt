@@ -1,4 +1,5 @@
-//! Tests of what is read and written: stores and sinks, images, sources, the text of instructions and turns, and manifests.
+//! Tests of what is read and written: stores and sinks, images, sources, the text of instructions and turns, and
+//! manifests.
 #![tactic(auto)]
 
 #[cfg(test)]

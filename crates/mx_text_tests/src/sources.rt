@@ -124,7 +124,8 @@ fn segment_in(alloc: Global, source: &str, place: u32) -> Option<(Segment, u32, 
     Some((segment_at(bytes, place), word_at(bytes, 24), image.len()))
 }
 
-/// What the loader finds in an image: its first two segments, the first word of the one and the first byte of the other,
+/// What the loader finds in an image: its first two segments, the first word of the one and the first byte of the
+/// other,
 /// and symbols.
 type Found = ([Segment; 2], (u32, u8), [Option<u32>; 3]);
 

@@ -1,9 +1,11 @@
 -- What a served call touches: a proof for each call, by its tests where it needs them.
-use Rattle.std.proofs.Common.{◌≡◌, ◌≢◌, ℕ, ◌+◌, ◌-◌, ◌*◌, ◌%◌, ◌<◌, ◌≤◌, ◌⊎◌, Bool, true, false, not, cond, ◌==◌, ◌&&◌, ◌||◌, nat_lt, nat_le, List, [], ◌∷◌, ◌++◌, length, refl, sym, ◌∙◌, ap, arith, eqb-true, Option, Some, None, unwrap_or, is_none, slice_index_or, ⊎_elim, inl, inr}
+use Rattle.std.proofs.Common.{◌≡◌, ◌≢◌, ℕ, ◌+◌, ◌-◌, ◌*◌, ◌%◌, ◌<◌, ◌≤◌, ◌⊎◌, Bool, true, false, not, cond, ◌==◌, ◌&&◌, ◌||◌}
+use Rattle.std.proofs.Common.{nat_le, List, [], ◌∷◌, ◌++◌, length, refl, sym, ◌∙◌, ap, arith, eqb-true, Option, Some, None, unwrap_or}
+use Rattle.std.proofs.Common.{is_none, slice_index_or, ⊎_elim, inl, inr}
 use Rattle.std.specs.Prelude.{IfSome, find}
 use Rattle.std.specs.List.{list_all, list_any, range_with_len}
 use Rattle.std.specs.Option.{option_map}
-use Rattle.std.proofs.lemmas.Bool.{and_parts, leb-false, leb-true, ltb-false, not-false}
+use Rattle.std.proofs.lemmas.Bool.{and_parts, leb-true, not-false}
 use Rattle.mx_words.specs.declared.perm.Access.TheVariants as A
 use Rattle.mx_words.specs.Announced.{is_announced}
 use Rattle.mx_words.specs.Bytes.{cleared_at, number_at, put_at}
@@ -18,7 +20,11 @@ use Rattle.mx_model.specs.declared.values.Gate.{Gate}
 use Rattle.mx_model.specs.Checks.{Look, arg, call_range, drops, looked_all}
 use Rattle.mx_model.specs.Gates.{gate_at, has_gate, is_at, no_gate_fits, with_gate, without_gate}
 use Rattle.mx_model.specs.Reads.{Change, Reads}
-use Rattle.mx_model.specs.Serve.{Served, Service, Exit, Write, Grant, RevokeAll, Transfer, Alloc, Free, AddGate, RemoveGate, AddReturnGate, Query, Self, Exchange, Unknown, adds, alloc_change, alloc_from, alloc_place, allocated, answers, arg_word, bytes_at, changes, ended, exchange_from, exchanged, foreign_word, free_change, freed_count, give_of, grant_change, is_word, judged, look_of, may_read, no_word, revoke_change, serve, serve_alloc, serve_free, served_by, service, with_blocks, write_from, write_looks, write_words, written_out}
+use Rattle.mx_model.specs.Serve.{Served, Service, Exit, Write, Grant, RevokeAll, Transfer, Alloc, Free, AddGate, RemoveGate, AddReturnGate}
+use Rattle.mx_model.specs.Serve.{Query, Self, Exchange, Unknown, adds, alloc_change, alloc_from, alloc_place, allocated, answers, arg_word}
+use Rattle.mx_model.specs.Serve.{bytes_at, changes, ended, exchange_from, exchanged, foreign_word, free_change, freed_count, give_of}
+use Rattle.mx_model.specs.Serve.{grant_change, is_word, judged, look_of, may_read, no_word, revoke_change, serve, serve_alloc, serve_free}
+use Rattle.mx_model.specs.Serve.{served_by, service, with_blocks, write_from, write_looks, write_words, written_out}
 use Rattle.mx_model.specs.State.{Core, Module, is_module, module_at, no_module}
 use Rattle.mx_model.specs.Valid.{IsHome}
 use Rattle.mx_model.proofs.ListLaws.{found-passes}
@@ -28,17 +34,10 @@ use Rattle.mx_model.proofs.TestLaws.{first-passes, found-some}
 use Rattle.mx_model.proofs.TurnCases.{looked_all-caches}
 use Rattle.mx_model.proofs.ValidParts.{same-modules-looked_all}
 use Rattle.mx_touched.specs.Touched.{Touched, is_among, touched_by, word_area}
-use Rattle.mx_touched.proofs.Fine.{IsFine, SameDeaths, area-in, cleared-beside, fine-alive, fine-moved, fine-none, kept-store, not-word}
+use Rattle.mx_touched.proofs.Fine.{IsFine, SameDeaths, area-in, fine-alive, fine-moved, fine-none, kept-store, not-word}
+use Rattle.mx_laws.proofs.ForeignLaws.{cleared-beside, uncovered}
 
--- a word outside a range lies before or behind it, and outside each part of it
-uncovered : (first count w : ℕ) → covers first count w ≡ false → (w < first) ⊎ (first + count ≤ w)
-uncovered first count w e =
-    elim (nat_le first w) as (λ b. nat_le first w ≡ b → b && nat_lt (w - first) count ≡ false →
-    (w < first) ⊎ (first + count ≤ w)) [
-      | true ↦ λ t f. let a = leb-true first w t in let b = ltb-false (w - first) count f in inr (omega (arith, a, b))
-      | false ↦ λ t f. inl (leb-false first w t)
-    ] refl e
-
+-- a word outside a range lies outside each part of it
 part-uncovered : (first count a n w : ℕ) → first ≤ a → a + n ≤ first + count → covers first count w ≡ false →
     covers a n w ≡ false
 part-uncovered first count a n w low high e =
@@ -334,4 +333,5 @@ module _ (r : Reads) (c : Core) (call : Call) (harts : ℕ) (count : length c.ra
       ]
 
   pub fine-serve : IsFineCall (touched_by (service call.number) c call) (serve r c call)
-  fine-serve = fine-ended (touched_by (service call.number) c call) (served_by (service call.number) r c call) (fine-by (service call.number))
+  fine-serve = fine-ended (touched_by (service call.number) c call) (served_by (service call.number) r c call)
+      (fine-by (service call.number))

@@ -1,75 +1,28 @@
 -- What a domain sees of two states is decided by tests: of all, and after a turn of what was touched.
-use Rattle.std.proofs.Common.{◌≡◌, ℕ, zero, suc, ◌+◌, ◌*◌, ◌<◌, Bool, true, false, not, ◌==◌, ◌&&◌, ◌||◌, nat_eq, [], ◌∷◌, ◌++◌, refl, sym, ◌∙◌, ap, subst, arith, lit<, eq-eqb, Option, Some, None}
-use Rattle.std.specs.Prelude.{IsTrue, slice_index}
+use Rattle.std.proofs.Common.{◌≡◌, ℕ, ◌+◌, ◌*◌, ◌<◌, Bool, true, false, ◌==◌, ◌&&◌, ◌||◌, [], ◌∷◌, ◌++◌, refl, sym, ◌∙◌, subst}
+use Rattle.std.proofs.Common.{lit<, eq-eqb}
+use Rattle.std.specs.Prelude.{IsTrue}
 use Rattle.std.specs.Bool.{Decides}
 use Rattle.std.specs.Cmp.Lexicographic.{pointwise_decides}
 use Rattle.std.specs.List.{list_all, range_with_len}
-use Rattle.std.specs.Option.{option_eq}
 use Rattle.std.proofs.lemmas.Bool.{and_from, and_parts}
 use Rattle.std.proofs.lemmas.Bool.Decides.{Decides-and, Decides-eqb, Decides-like}
 use Rattle.mx_words.specs.declared.perm.Perm.{Perm}
 use Rattle.mx_words.specs.declared.perm.Access.TheVariants as A
 use Rattle.mx_words.specs.FirstFit.{Area}
-use Rattle.mx_words.specs.Rights.{allows, number, same}
+use Rattle.mx_words.specs.Rights.{allows, same}
 use Rattle.mx_words.proofs.OverlayLaws.{covers_from, covers_in}
 use Rattle.mx_words.proofs.RangeTests.{all_pass, each_passes}
-use Rattle.mx_words.proofs.RunLaws.{same_eq}
 use Rattle.mx_model.specs.declared.values.Gate.{Gate}
-use Rattle.mx_model.specs.Agreement.{Agrees, Standing, Runs, Waits, Ended, standing, target_at}
+use Rattle.mx_model.specs.Agreement.{Agrees, standing, target_at}
 use Rattle.mx_model.specs.Reads.{Reads}
 use Rattle.mx_model.specs.State.{Core, Hart, Running, module_at}
-use Rattle.mx_laws.specs.Comparison.{AreFit, agrees, same_flag, same_if_read, same_right, same_standing, same_target, same_word}
-use Rattle.mx_laws.proofs.ComparisonLaws.{agrees-decides}
+use Rattle.mx_laws.specs.Comparison.{AreFit, agrees, same_if_read, same_right, same_standing, same_target}
+use Rattle.mx_laws.proofs.ComparisonLaws.{agrees-decides, decides-standing, decides-flag, decides-right, decides-target}
+use Rattle.mx_laws.proofs.ComparisonLaws.{SameBytes, decides-bytes, decides-where}
 use Rattle.mx_touched.specs.Touched.{Touched, is_among}
 use Rattle.mx_touched.specs.Rest.{AreSameHarts, LeavesAll}
 use Rattle.mx_touched.specs.Views.{AreSameViews, same_death, same_hart, same_touched, same_views, sees_same, words_of}
-
--- tests of flags, permissions, targets and bytes
-decides-flag : (a b : Bool) → Decides (same_flag a b) (a ≡ b)
-decides-flag true true = (λ e. refl, λ p. refl)
-decides-flag true false = (λ e. sym e, λ p. sym p)
-decides-flag false true = (λ e. e, λ p. p)
-decides-flag false false = (λ e. refl, λ p. refl)
-
-decides-standing : (a b : Standing) → Decides (same_standing a b) (a ≡ b)
-decides-standing Runs Runs = (λ e. refl, λ p. refl)
-decides-standing Runs Waits = (λ e. absurd (let q : ⊥ = cc in q), λ p. absurd (let q : ⊥ = cc in q))
-decides-standing Runs Ended = (λ e. absurd (let q : ⊥ = cc in q), λ p. absurd (let q : ⊥ = cc in q))
-decides-standing Waits Runs = (λ e. absurd (let q : ⊥ = cc in q), λ p. absurd (let q : ⊥ = cc in q))
-decides-standing Waits Waits = (λ e. refl, λ p. refl)
-decides-standing Waits Ended = (λ e. absurd (let q : ⊥ = cc in q), λ p. absurd (let q : ⊥ = cc in q))
-decides-standing Ended Runs = (λ e. absurd (let q : ⊥ = cc in q), λ p. absurd (let q : ⊥ = cc in q))
-decides-standing Ended Waits = (λ e. absurd (let q : ⊥ = cc in q), λ p. absurd (let q : ⊥ = cc in q))
-decides-standing Ended Ended = (λ e. refl, λ p. refl)
-
-decides-right : (p q : Perm) → Decides (same p q) (p ≡ q)
-decides-right p q = (same_eq p q, λ e. eq-eqb (number p) (number q) (ap number e))
-
-decides-target : (o p : Option ℕ) → Decides (option_eq nat_eq o p) (o ≡ p)
-decides-target None None = (λ e. refl, λ p. refl)
-decides-target None (Some y) = (λ e. absurd (let q : ⊥ = cc in q), λ p. absurd (let q : ⊥ = cc in q))
-decides-target (Some x) None = (λ e. absurd (let q : ⊥ = cc in q), λ p. absurd (let q : ⊥ = cc in q))
-decides-target (Some x) (Some y) = Decides-like (nat_eq x y) (λ e. ap (λ (n : ℕ). Some n) e) (λ e. let q : x ≡ y = cc in q) (Decides-eqb x y)
-
-decides-four : (p : ℕ → Bool) (W : ℕ → Type 0) → ((k : ℕ) → Decides (p k) (W k)) →
-    Decides (list_all p (0 ∷ 1 ∷ 2 ∷ 3 ∷ [])) ((k : ℕ) → k < 4 → W k)
-decides-four p W d = (
-  each,
-  λ f.
-      and_from (p 0) _ ((d 0).1 (f 0 (lit< tt))) (and_from (p 1) _ ((d 1).1 (f 1 (lit< tt)))
-      (and_from (p 2) _ ((d 2).1 (f 2 (lit< tt))) (and_from (p 3) true ((d 3).1 (f 3 (lit< tt))) refl))),
-)
-  where
-    each : list_all p (0 ∷ 1 ∷ 2 ∷ 3 ∷ []) ≡ true → (k : ℕ) → k < 4 → W k
-    each e zero l = (d 0).0 (and_parts (p 0) _ e).0
-    each e (suc zero) l = (d 1).0 (and_parts (p 1) _ (and_parts (p 0) _ e).1).0
-    each e (suc (suc zero)) l = (d 2).0 (and_parts (p 2) _ (and_parts (p 1) _ (and_parts (p 0) _ e).1).1).0
-    each e (suc (suc (suc zero))) l = (d 3).0 (and_parts (p 3) _ (and_parts (p 2) _ (and_parts (p 1) _ (and_parts (p 0) _ e).1).1).1).0
-    each e (suc (suc (suc (suc k)))) l = absurd (let q : ⊥ = omega (arith, l) in q)
-
-decides-where : (b x : Bool) (W : Type 0) → Decides x W → Decides (not b || x) (IsTrue b → W)
-decides-where true x W d = (λ e p. d.0 e, λ f. d.1 (f refl))
-decides-where false x W d = (λ e p. absurd (let q : ⊥ = cc in q), λ f. refl)
 
 -- two harts
 pub decides-hart : (x y : Hart) → Decides (same_hart x y) (AreSameHarts x y)
@@ -86,9 +39,6 @@ decides-hart x y =
     decides-none = (λ n. tt, λ n. refl)
 
 -- a word as a domain sees it
-abbrev SameBytes : Core → Core → ℕ → Type 0
-SameBytes c e word = (k : ℕ) → k < 4 → slice_index c.ram (4 * word + k) ≡ slice_index e.ram (4 * word + k)
-
 record SameWord (r : Reads) (c : Core) (q : Reads) (e : Core) (d word : ℕ) : Type 0 where
   right : r.perm d word ≡ q.perm d word
   bytes : IsTrue (allows (r.perm d word) A.Read) → SameBytes c e word
@@ -98,10 +48,7 @@ decides-word : (r : Reads) (c : Core) (q : Reads) (e : Core) (d word : ℕ) →
 decides-word r c q e d word =
     Decides-like (sees_same r c q e d word) (λ p. record { right = p.0; bytes = p.1 }) (λ s. (s.right, s.bytes))
     (Decides-and _ _ (decides-right (r.perm d word) (q.perm d word))
-    (decides-where (allows (r.perm d word) A.Read) (same_word c e word) (SameBytes c e word)
-    (decides-four (λ k. slice_index c.ram (4 * word + k) == slice_index e.ram (4 * word + k))
-    (λ k. slice_index c.ram (4 * word + k) ≡ slice_index e.ram (4 * word + k))
-    (λ k. Decides-eqb (slice_index c.ram (4 * word + k)) (slice_index e.ram (4 * word + k))))))
+    (decides-bytes r c e d word))
 
 -- the words of an area
 decides-among : (test : ℕ → Bool) (W : ℕ → Type 0) (area : Area) → ((w : ℕ) → Decides (test w) (W w)) →
@@ -230,7 +177,12 @@ module _ (r : Reads) (c : Core) (q : Reads) (e : Core) (d : ℕ) (a : AreFit r c
   second = record e { harts = watcher ∷ [] }
 
   watched : Decides (agrees r first q second 0) (Agrees r first q second 0)
-  watched = agrees-decides r q first second 0 (record { words = a.words; first = record { outside = a.first.outside }; second = record { outside = a.second.outside } })
+  watched = agrees-decides r q first second 0 (record {
+    words = a.words;
+    first = record { outside = a.first.outside };
+    second =
+        record { outside = a.second.outside };
+  })
 
   abbrev rights : ℕ → Bool
   rights = same_right r q d
@@ -245,7 +197,8 @@ module _ (r : Reads) (c : Core) (q : Reads) (e : Core) (d : ℕ) (a : AreFit r c
   gates = list_all (λ (g : Gate). same_target c e d g.word) (c.gates ++ e.gates)
 
   abbrev Parts : Type 0
-  Parts = (list_all rights (range_with_len 0 c.size) ≡ true) × (death ≡ true) × (gates ≡ true) × (list_all read (range_with_len 0 c.size) ≡ true)
+  Parts = (list_all rights (range_with_len 0 c.size) ≡ true) × (death ≡ true) × (gates ≡ true)
+      × (list_all read (range_with_len 0 c.size) ≡ true)
 
   agrees-parts : agrees r first q second 0 ≡ true → Parts
   agrees-parts t =

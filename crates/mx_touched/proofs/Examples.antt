@@ -168,7 +168,8 @@ fails-for-1 = refl
 holds-for-2 : fails 2 (flat plain) (flat other) ≡ false
 holds-for-2 = refl
 
--- after a turn that touched nothing hart 0 alone counts; where what was touched is seen apart agreement fails by any hart in the domain, and
+-- after a turn that touched nothing hart 0 alone counts; where what was touched is seen apart agreement fails by any hart in the domain,
+-- and
 -- is open where there is none
 found-apart : found_known 1 (flat plain) (flat other) 0 (record untouched { bytes = area 8 1 }) untouched ≡ None
 found-apart = refl

@@ -1,5 +1,6 @@
 -- What is made of a state touches no more than was told: of bytes, gates, deaths and rights.
-use Rattle.std.proofs.Common.{◌≡◌, ◌≢◌, ℕ, zero, suc, ◌+◌, ◌-◌, ◌*◌, ◌/◌, ◌%◌, ◌<◌, ◌≤◌, ◌⊎◌, Bool, true, false, cond, nat_lt, nat_le, List, length, get_or, set, refl, sym, ◌∙◌, ap, arith, Option, Some, None, ⊎_elim, inl, inr}
+use Rattle.std.proofs.Common.{◌≡◌, ◌≢◌, ℕ, zero, suc, ◌+◌, ◌-◌, ◌*◌, ◌/◌, ◌%◌, ◌<◌, ◌≤◌, ◌⊎◌, Bool, true, false, cond, nat_lt, nat_le, List}
+use Rattle.std.proofs.Common.{get_or, set, refl, sym, ◌∙◌, ap, arith, Option, Some, None, ⊎_elim, inl, inr}
 use Rattle.std.specs.Option.{option_map_or}
 use Rattle.std.proofs.lemmas.Bool.{and_from, le-leb, lt-ltb, ltb-true, ltb-false}
 use Rattle.std.proofs.lemmas.List.{get_or-set_other}
@@ -15,6 +16,7 @@ use Rattle.mx_model.specs.Reads.{Change}
 use Rattle.mx_model.specs.State.{Core, Module, module_at, no_module}
 use Rattle.mx_laws.specs.Foreign.{IsKept}
 use Rattle.mx_touched.specs.Touched.{Touched, is_among, no_words, word_area}
+use Rattle.mx_laws.proofs.ForeignLaws.{put-beside, cleared-beside, kept-ram}
 
 -- a word lies beside a change, if there is one
 abbrev pub IsBeside : Option Change → ℕ → Type 0
@@ -32,9 +34,6 @@ pub record IsFine (t : Touched) (c e : Core) (d : ℕ) (made : Option Change) : 
 -- the deaths of all modules are as they were
 abbrev pub SameDeaths : Core → Core → Type 0
 SameDeaths c e = (g : ℕ) → (module_at e g).dead ≡ (module_at c g).dead
-
-kept-ram : (c e : Core) (w : ℕ) → e.ram ≡ c.ram → IsKept c e w
-kept-ram c e w n k l = ap (λ (xs : List ℕ). get_or xs (4 * w + k) 0) n
 
 same-gates : (c e : Core) (g w : ℕ) → e.gates ≡ c.gates → target_at e g w ≡ target_at c g w
 same-gates c e g w n = ap (λ (gs : List Gate). gate_target gs g w) n
@@ -67,20 +66,6 @@ fine-moved t c e f d change n m k p = record {
   deaths = λ g l q. same-deaths e f k g ∙ p.deaths g l q;
   change = p.change;
 }
-
--- a byte beside a store
-put-beside : (size : ℕ) (xs : List ℕ) (k n j : ℕ) → (j < k) ⊎ (k + size ≤ j) → get_or (put_at xs k size n) j 0 ≡ get_or xs j 0
-unfolding put_at
-put-beside zero xs k n j p = refl
-put-beside (suc size) xs k n j p =
-    put-beside size (set xs k (n % 256)) (k + 1) (n / 256) j (⊎_elim (λ l. inl (omega (arith, l))) (λ l. inr (omega (arith, l))) p)
-    ∙ get_or-set_other xs k j (n % 256) 0 (λ e. ⊎_elim (λ l. let q : ⊥ = omega (arith, l, e) in q) (λ l. let q : ⊥ = omega (arith, l, e) in q) p)
-
--- a byte beside the cleared ones
-pub cleared-beside : (xs : List ℕ) (k n j : ℕ) → k + n ≤ length xs → (j < k) ⊎ (k + n ≤ j) →
-    get_or (cleared_at xs k n) j 0 ≡ get_or xs j 0
-unfolding cleared_at
-cleared-beside xs k n j p s = grind (arith, common_steps)
 
 beside : (w v k offset size : ℕ) → offset + size ≤ 4 → k < 4 → w ≢ v →
     (4 * w + k < 4 * v + offset) ⊎ (4 * v + offset + size ≤ 4 * w + k)

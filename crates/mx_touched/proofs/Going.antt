@@ -1,7 +1,6 @@
 -- How two machines go on: from the start, at a border, where all harts are halted, and as a pair.
-use Rattle.std.proofs.Common.{◌≡◌, ◌≢◌, ℕ, zero, suc, ◌+◌, ◌-◌, Bool, true, false, not, ◌==◌, ◌&&◌, ◌||◌, List, [], ◌∷◌, length, get_or, refl, sym, ◌∙◌, ap, Option, Some, None}
-use Rattle.std.specs.List.{list_all}
-use Rattle.std.proofs.lemmas.Bool.{and_parts}
+use Rattle.std.proofs.Common.{◌≡◌, ◌≢◌, ℕ, zero, suc, ◌+◌, ◌-◌, Bool, true, false, not, ◌==◌, ◌&&◌, ◌||◌, List, [], ◌∷◌, length, get_or}
+use Rattle.std.proofs.Common.{refl, sym, ◌∙◌, ap, Option, Some, None}
 use Rattle.mx_words.specs.declared.perm.Perm.{Perm}
 use Rattle.mx_words.specs.Changes.{changed_from}
 use Rattle.mx_words.specs.Newest.{map}
@@ -11,11 +10,11 @@ use Rattle.mx_model.specs.Agreement.{Ended, standing}
 use Rattle.mx_model.specs.Checks.{is_halted}
 use Rattle.mx_model.specs.Reads.{Change, flat_reads, map_in}
 use Rattle.mx_model.specs.Run.{all_halted, flat_kind, flat_made, flat_turn, maps_after}
-use Rattle.mx_model.specs.State.{Flat, Hart, Status, Running, Waiting, Halted, hart_at, no_hart}
+use Rattle.mx_model.specs.State.{Flat, Status, Running, Waiting, Halted, hart_at}
 use Rattle.mx_model.proofs.KeepLaws.{keeps-turned, size-turned}
 use Rattle.mx_model.proofs.TurnLaws.{valid-turned}
 use Rattle.mx_laws.specs.Quiet.{may_tell}
-use Rattle.mx_laws.proofs.QuietLaws.{end-turned}
+use Rattle.mx_laws.proofs.QuietLaws.{end-turned, halted-each}
 use Rattle.mx_laws.proofs.TwinLaws.{idle-ended}
 use Rattle.mx_touched.specs.Pairs.{ArePair, IsSound, any_compared, fails, is_compared}
 use Rattle.mx_touched.proofs.Pairs.{agree-hart, agreed-each, compared-live, known-holds, out-holds, ran-right, same-halted, start-known}
@@ -72,13 +71,6 @@ border-kind d h f g p n c e = (
 )
 
 -- all harts are halted
-halted-each : (harts : List Hart) (h : ℕ) → list_all (λ (hart : Hart). is_halted hart.status) harts ≡ true →
-    is_halted (get_or harts h no_hart).status ≡ true
-halted-each [] h e = refl
-halted-each (x ∷ xs) zero e = (and_parts (is_halted x.status) (list_all (λ (hart : Hart). is_halted hart.status) xs) e).0
-halted-each (x ∷ xs) (suc h) e =
-    halted-each xs h (and_parts (is_halted x.status) (list_all (λ (hart : Hart). is_halted hart.status) xs) e).1
-
 halted-standing : (s : Status) → is_halted s ≡ true → standing s ≡ Ended
 halted-standing Running e = absurd (let z : ⊥ = cc in z)
 halted-standing (Waiting call heard) e = absurd (let z : ⊥ = cc in z)

@@ -1,18 +1,19 @@
 -- What a turn touches: each action, then the turn, in states and in flat states.
-use Rattle.std.proofs.Common.{◌≡◌, ◌≢◌, ℕ, zero, suc, ◌+◌, ◌-◌, ◌*◌, ◌/◌, ◌%◌, ◌<◌, ◌≤◌, ◌⊎◌, Bool, true, false, not, cond, ◌==◌, ◌&&◌, nat_lt, nat_le, List, [], ◌∷◌, length, get_or, set, refl, sym, ◌∙◌, ap, subst, arith, eqb-true, Option, Some, None, unwrap_or, ⊎_elim, inl, inr}
+use Rattle.std.proofs.Common.{◌≡◌, ◌≢◌, ℕ, ◌+◌, ◌-◌, ◌*◌, ◌/◌, ◌%◌, ◌<◌, ◌≤◌, ◌⊎◌, Bool, true, false, not, cond, ◌==◌, ◌&&◌, nat_lt, nat_le}
+use Rattle.std.proofs.Common.{List, [], ◌∷◌, length, get_or, set, refl, sym, ◌∙◌, ap, subst, arith, eqb-true, Option, Some, None, unwrap_or}
+use Rattle.std.proofs.Common.{⊎_elim}
 use Rattle.std.specs.Option.{option_map_or}
-use Rattle.std.proofs.lemmas.Bool.{and_parts, cases_lt, leb-true, ltb-true}
+use Rattle.std.proofs.lemmas.Bool.{and_parts, leb-true, ltb-true}
 use Rattle.std.proofs.lemmas.List.{get_or-set_other}
 use Rattle.mx_words.specs.declared.perm.Perm.{Perm}
 use Rattle.mx_words.specs.declared.perm.Perm.TheVariants as P
 use Rattle.mx_words.specs.declared.perm.Access.TheVariants as A
 use Rattle.mx_words.specs.Bytes.{IsSize, put_at}
 use Rattle.mx_words.specs.Caches.{Cache}
-use Rattle.mx_words.specs.Changes.{changed_from, changed_map, grant_of}
 use Rattle.mx_words.specs.Newest.{map}
-use Rattle.mx_words.specs.Ranges.{covers, in_ram, is_range, ram_base, range_words}
+use Rattle.mx_words.specs.Ranges.{in_ram, is_range, ram_base, range_words}
 use Rattle.mx_words.specs.Rights.{perm_at}
-use Rattle.mx_words.proofs.OverlayLaws.{covers_in, laid_behind, laid_below}
+use Rattle.mx_words.proofs.ChangeLaws.{outside, beside-from}
 use Rattle.mx_isa.specs.declared.inst.Inst.{Inst}
 use Rattle.mx_isa.specs.declared.inst.Inst.TheVariants.{Store}
 use Rattle.mx_model.specs.declared.values.Call.{Call}
@@ -24,44 +25,31 @@ use Rattle.mx_model.specs.Effect.{next, plus, reg}
 use Rattle.mx_model.specs.Gates.{top}
 use Rattle.mx_model.specs.Reads.{Change, Reads, flat_reads, map_in, reads}
 use Rattle.mx_model.specs.Run.{flat_made, flat_turn, maps_after, turn}
-use Rattle.mx_model.specs.Serve.{Served, Service, Grant, RevokeAll, Alloc, Free, AddGate, RemoveGate, AddReturnGate, Exchange, serve, service}
+use Rattle.mx_model.specs.Serve.{Served, Service, Grant, RevokeAll, Alloc, Free, AddGate, RemoveGate, AddReturnGate, Exchange, serve}
+use Rattle.mx_model.specs.Serve.{service}
 use Rattle.mx_model.specs.State.{Core, Flat, Hart, Module, State, flat, hart_at, module_at, no_hart, no_module, with_module}
-use Rattle.mx_model.specs.Turn.{Action, Rests, Waits, Serves, Asks, Traps, Bounces, Crosses, Returns, Runs, Writes, Made, acted, answered, asked, by_status, call_of, done, given_up, halted, is_denied, is_served_now, killed, served, turned, with_regs}
+use Rattle.mx_model.specs.Turn.{Action, Rests, Waits, Serves, Asks, Traps, Bounces, Crosses, Returns, Runs, Writes, Made, acted, answered}
+use Rattle.mx_model.specs.Turn.{asked, by_status, call_of, done, given_up, halted, is_denied, is_served_now, killed, served, turned}
+use Rattle.mx_model.specs.Turn.{with_regs}
 use Rattle.mx_model.specs.Valid.{IsValid}
 use Rattle.mx_model.proofs.AlignedLaws.{in-word}
 use Rattle.mx_model.proofs.FlatLaws.{flat-turn, reads-flat}
 use Rattle.mx_model.proofs.KeepLaws.{size-turned}
 use Rattle.mx_model.proofs.ValidParts.{home-at}
 use Rattle.mx_laws.specs.After.{core_after, domain_at}
-use Rattle.mx_laws.proofs.CallWalk.{CallLeaves, served-walk}
+use Rattle.mx_laws.proofs.CallWalk.{served-walk}
 use Rattle.mx_laws.proofs.Lawful.{IsLawful, OwnCall, lawful-turn, present}
 use Rattle.mx_laws.proofs.ReadLaws.{allowed-if}
 use Rattle.mx_laws.proofs.TurnParts.{IsAlike, apart, by-action}
-use Rattle.mx_touched.specs.Touched.{AreIn, Touched, called_at, is_among, no_words, stored_at, stored_by, touched, touched_as, touched_by, touched_in, untouched, word_area}
+use Rattle.mx_touched.specs.Touched.{AreIn, Touched, called_at, is_among, no_words, stored_at, stored_by, touched, touched_as, touched_by}
+use Rattle.mx_touched.specs.Touched.{touched_in, untouched, word_area}
 use Rattle.mx_touched.specs.Rest.{AreSameHarts, LeavesRest, LeavesRights, flat_leaves_all, leaves_all}
 use Rattle.mx_touched.proofs.Stores.{StoresIn, stores-decided}
 use Rattle.mx_touched.proofs.Fine.{IsBeside, IsFine, area-word, area_by, fine-moved, fine-none, kept-store, not-word}
 use Rattle.mx_touched.proofs.Calls.{fine-serve}
+use Rattle.mx_laws.proofs.FrameLaws.{harts-killed, harts-leaves}
 
 -- the other harts, after an action of hart h
-harts-leaves : (r : Reads) (c : Core) (call : Call) → CallLeaves r c call (λ (e : Core). e.harts ≡ c.harts)
-harts-leaves r c call = record {
-  caches = λ e caches p. p;
-  none = refl;
-  modules = λ modules. refl;
-  gates = λ gates. refl;
-  exchange = λ a. refl;
-  alloc = λ s first a. refl;
-}
-
-harts-killed : (d cause : ℕ) (c : Core) → (killed d cause c).harts ≡ c.harts
-harts-killed d cause c =
-    elim ((module_at c d).kills && not (cause == 20)) as
-    (λ b. (cond b (with_module d (record (module_at c d) { dead = true }) c) c).harts ≡ c.harts) [
-      | true ↦ refl
-      | false ↦ refl
-    ]
-
 module _ (c : Core) (h g : ℕ) (n : g ≢ h) where
   other-set : (old : List Hart) (y : Hart) → old ≡ c.harts → get_or (set old h y) g no_hart ≡ hart_at c g
   other-set old y e = get_or-set_other old h g y no_hart n ∙ ap (λ (hs : List Hart). get_or hs g no_hart) e
@@ -139,7 +127,8 @@ module _ (r : Reads) (c : Core) (h : ℕ) (v : IsValid c) (l : h < length c.hart
   fine-call : IsFineMade (called_at c h) (served r seen h own call)
   fine-call =
       let s = serve r seen call in
-      let p = subst (λ (t : Touched). IsFine t seen s.core own.domain s.change) (touched-apart (service call.number) c turns harts caches call)
+      let p = subst (λ (t : Touched). IsFine t seen s.core own.domain s.change)
+      (touched-apart (service call.number) c turns harts caches call)
       (fine-serve r seen call (length c.harts) v.ram_count (home-at c own.domain v)) in
       fine-done (called_at c h) s
       (record { bytes = p.bytes; gates = p.gates; death = p.death; deaths = p.deaths; change = p.change })
@@ -162,7 +151,8 @@ module _ (r : Reads) (c : Core) (h : ℕ) (v : IsValid c) (l : h < length c.hart
   fine-killed : (cause : ℕ) → IsFine dying c (killed own.domain cause seen) own.domain None
   fine-killed cause =
       elim ((module_at c own.domain).kills && not (cause == 20)) as
-      (λ b. IsFine dying c (cond b (with_module own.domain (record (module_at seen own.domain) { dead = true }) seen) seen) own.domain None) [
+      (λ b. IsFine dying c
+      (cond b (with_module own.domain (record (module_at seen own.domain) { dead = true }) seen) seen) own.domain None) [
         | true ↦ record {
           bytes = λ w p k i. refl;
           gates = λ g w p. refl;
@@ -259,27 +249,6 @@ leaves-rest r c h v =
     }
 
 -- maps beside a change
-outside : (first count w : ℕ) → covers first count w ≡ false → (w < first) ⊎ (first + count ≤ w)
-outside first count w e = by (cases_lt w first) (cases_lt w (first + count))
-  where
-    by : (w < first) ⊎ (first ≤ w) → (w < first + count) ⊎ (first + count ≤ w) → (w < first) ⊎ (first + count ≤ w)
-    by (inl lt) y = inl lt
-    by (inr le) (inr far) = inr far
-    by (inr le) (inl lt) = let clash : true ≡ false = sym (covers_in first count w le lt) ∙ e in absurd (cc)
-
-beside-map : (first count : ℕ) (o : Option Perm) (m : List Perm) (w : ℕ) → (w < first) ⊎ (first + count ≤ w) →
-    perm_at (changed_map first count o m) w ≡ perm_at m w
-beside-map first count None m w out = refl
-beside-map first count (Some p) m w (inl lt) = laid_below (grant_of first count p) m w P.None lt
-beside-map first count (Some p) m w (inr le) = laid_behind (grant_of first count p) m w P.None le
-
-beside-from : (first count : ℕ) (given : ℕ → Option Perm) (d k : ℕ) (ms : List (List Perm)) (n : List Perm) (w : ℕ) →
-    (w < first) ⊎ (first + count ≤ w) →
-    perm_at (get_or (changed_from first count given d ms) k n) w ≡ perm_at (get_or ms k n) w
-beside-from first count given d k [] n w out = refl
-beside-from first count given d zero (m ∷ ms) n w out = beside-map first count (given d) m w out
-beside-from first count given d (suc k) (m ∷ ms) n w out = beside-from first count given (d + 1) k ms n w out
-
 beside-maps : (size : ℕ) (maps : List (List Perm)) (o : Option Change) (d w : ℕ) → IsBeside o w →
     perm_at (map_in size (maps_after maps o) d) w ≡ perm_at (map_in size maps d) w
 beside-maps size maps None d w p = refl

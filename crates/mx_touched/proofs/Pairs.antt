@@ -1,9 +1,10 @@
 -- Two machines watched for a domain: what is found after a turn is right.
-use Rattle.std.proofs.Common.{◌≡◌, ◌≢◌, ℕ, zero, suc, ◌+◌, ◌<◌, ◌≤◌, Bool, true, false, not, cond, ◌==◌, ◌&&◌, ◌||◌, List, [], ◌∷◌, length, refl, sym, ◌∙◌, ap, subst, arith, eqb-true, if◌then◌else◌, Some, None, ⊎_elim}
+use Rattle.std.proofs.Common.{◌≡◌, ◌≢◌, ℕ, ◌+◌, ◌<◌, ◌≤◌, Bool, true, false, not, cond, ◌==◌, ◌&&◌, ◌||◌, [], ◌∷◌, length, refl, sym, ◌∙◌}
+use Rattle.std.proofs.Common.{ap, subst, arith, eqb-true, if◌then◌else◌, Some, None, ⊎_elim}
 use Rattle.std.specs.Bool.{Decides}
-use Rattle.std.specs.List.{list_any, range_with_len}
+use Rattle.std.specs.List.{range_with_len}
 use Rattle.std.proofs.Math.ListN.{get_or-eq_default}
-use Rattle.std.proofs.lemmas.Bool.{and_from, and_parts, cases_lt, eqb-false, false_from_ne_true, not-false, not-true, or_cases, or_left, or_parts, or_right}
+use Rattle.std.proofs.lemmas.Bool.{and_from, and_parts, eqb-false, false_from_ne_true, not-false, not-true, or_cases, or_parts}
 use Rattle.mx_words.specs.declared.perm.Perm.TheVariants as P
 use Rattle.mx_model.specs.declared.values.TurnKind.TheVariants as T
 use Rattle.mx_model.specs.Agreement.{Ended, Standing, Runs, Waits, flat_agree, standing}
@@ -21,10 +22,12 @@ use Rattle.mx_laws.proofs.TurnParts.{apart, by-action, there}
 use Rattle.mx_laws.proofs.TwinLaws.{left-twin, ran-free}
 use Rattle.mx_touched.specs.Rest.{AreSameHarts}
 use Rattle.mx_touched.specs.Views.{AreSameViews, same_hart, same_views}
-use Rattle.mx_touched.specs.Pairs.{ArePair, IsRight, IsSound, Knows, any_compared, fails, flat_agrees, flat_same_touched, flat_touched, found_known, found_unknown, is_compared, is_inside, same_if_compared}
+use Rattle.mx_touched.specs.Pairs.{ArePair, IsRight, IsSound, Knows, any_compared, fails, flat_agrees, flat_same_touched, flat_touched}
+use Rattle.mx_touched.specs.Pairs.{found_known, found_unknown, is_compared, is_inside, same_if_compared}
 use Rattle.mx_touched.proofs.Decide.{decides-hart, touched-decide, views-decides}
 use Rattle.mx_touched.proofs.Leaves.{leaves-flat}
 use Rattle.mx_touched.proofs.Tests.{any-found, any-missed, any-none, any-some}
+use Rattle.mx_laws.proofs.QuietLaws.{ended-status}
 
 -- harts
 same-back : (x y : Hart) → AreSameHarts x y → AreSameHarts y x
@@ -42,11 +45,6 @@ abbrev has_ended : Standing → Bool
 has_ended Runs = false
 has_ended Waits = false
 has_ended Ended = true
-
-ended-status : (s : Status) → is_halted s ≡ has_ended (standing s)
-ended-status Running = refl
-ended-status (Waiting call heard) = refl
-ended-status (Halted code) = refl
 
 pub same-halted : (s t : Status) → standing s ≡ standing t → is_halted s ≡ is_halted t
 same-halted s t e = ended-status s ∙ ap has_ended e ∙ sym (ended-status t)
@@ -159,7 +157,8 @@ fails-unlike d f g i p e n =
 pub agreed-each : (d : ℕ) (f g : Flat) (i : ℕ) → ArePair f g → fails d f g ≡ false → is_compared d f g i ≡ true → flat_agree f g i
 agreed-each d f g i p n e =
     let m : (is_compared d f g i && not (flat_agrees f g i)) ≡ false =
-    any-missed (λ j. is_compared d f g j && not (flat_agrees f g j)) 0 (length f.core.harts) i n (omega arith) (compared-there d f g i p e) in
+    any-missed (λ j. is_compared d f g j && not (flat_agrees f g j)) 0 (length f.core.harts) i n (omega arith) (compared-there d f g i p e)
+    in
     (agrees-is f g i p).0 (not-false (flat_agrees f g i) (sym (ap (λ (b : Bool). b && not (flat_agrees f g i)) e) ∙ m))
 
 -- where something is known, agreement holds
@@ -273,7 +272,8 @@ module _ (d h : ℕ) (f g : Flat) (p : ArePair f g) (q : ArePair (flat_turn f h)
 
     came-in : is_compared d u v h ≡ true → (b : Bool) → alike ≡ b → IsRight d u v (if b then Some true else None)
     came-in c true e =
-        let parts = and_parts (same_hart (hart_at u.core h) (hart_at v.core h)) (same_views (flat_reads u) u.core (flat_reads v) v.core d) e in
+        let parts = and_parts (same_hart (hart_at u.core h) (hart_at v.core h)) (same_views (flat_reads u) u.core (flat_reads v) v.core d) e
+        in
         record {
           harts = harts-after false k (λ n. (decides-hart (hart_at u.core h) (hart_at v.core h)).0 parts.0);
           views = λ n. (views-decides (flat_reads u) u.core (flat_reads v) v.core d (fit u v q)).0 parts.1;
@@ -284,7 +284,8 @@ module _ (d h : ℕ) (f g : Flat) (p : ArePair f g) (q : ArePair (flat_turn f h)
         let s = agree-hart u v h a in
         let m = and_from (same_hart (hart_at u.core h) (hart_at v.core h)) (same_views (flat_reads u) u.core (flat_reads v) v.core d)
         ((decides-hart (hart_at u.core h) (hart_at v.core h)).1 s)
-        ((views-decides (flat_reads u) u.core (flat_reads v) v.core d (fit u v q)).1 (agree-views d u v h a (compared-domain d u v h c s))) in
+        ((views-decides (flat_reads u) u.core (flat_reads v) v.core d (fit u v q)).1 (agree-views d u v h a (compared-domain d u v h c s)))
+        in
         let z : ⊥ = cc in z)
 
     unknown-by : (b : Bool) → is_compared d u v h ≡ b →
@@ -296,7 +297,8 @@ module _ (d h : ℕ) (f g : Flat) (p : ArePair f g) (q : ArePair (flat_turn f h)
     unknown-right = unknown-by (is_compared d u v h) refl
 
 -- a turn that carries out an instruction is a running hart's
-ran-status : (r : Reads) (c e : Core) (h : ℕ) (x : Hart) (s : Status) → (acted r e h x (by_status r c h x s).action).kind ≡ T.Ran → s ≡ Running
+ran-status : (r : Reads) (c e : Core) (h : ℕ) (x : Hart) (s : Status) → (acted r e h x (by_status r c h x s).action).kind ≡ T.Ran
+    → s ≡ Running
 ran-status r c e h x Running k = refl
 ran-status r c e h x (Waiting call heard) k = absurd (by (is_ready c h heard) k)
   where

@@ -9,11 +9,14 @@ use Rattle.mx_isa.specs.declared.inst.Inst.TheVariants.{Lui, Auipc, Jal, Jalr, B
 use Rattle.mx_isa.specs.Table.{decoded}
 use Rattle.mx_model.specs.declared.values.Frame.{Frame}
 use Rattle.mx_model.specs.Checks.{is_halted, is_ready}
-use Rattle.mx_model.specs.Effect.{Effect, Goes, Faults, Loads, Stores, Jumps, effect, holds, load_size, next, plus, reg, store_size, taken, written}
+use Rattle.mx_model.specs.Effect.{Effect, Goes, Faults, Loads, Stores, Jumps, effect, holds, load_size, next, plus, reg, store_size, taken}
+use Rattle.mx_model.specs.Effect.{written}
 use Rattle.mx_model.specs.Gates.{most_frames, top}
 use Rattle.mx_model.specs.Reads.{Reads}
 use Rattle.mx_model.specs.State.{Core, Hart, Status, Running, Waiting, Halted, hart_at, module_at}
-use Rattle.mx_model.specs.Turn.{Action, Waits, Serves, Traps, Bounces, Crosses, Returns, Runs, Writes, Decided, at_gate, at_return, by_effect, by_status, by_word, call_gate_at, fetches, is_denied, is_return_at, jump_action, load_at, returned_over, runs_at, runs_in, traps, without_look}
+use Rattle.mx_model.specs.Turn.{Action, Waits, Serves, Traps, Bounces, Crosses, Returns, Runs, Writes, Decided, at_gate, at_return}
+use Rattle.mx_model.specs.Turn.{by_effect, by_status, by_word, call_gate_at, fetches, is_denied, is_return_at, jump_action, load_at}
+use Rattle.mx_model.specs.Turn.{returned_over, runs_at, runs_in, traps, without_look}
 use Rattle.mx_laws.proofs.TurnParts.{apart}
 use Rattle.mx_touched.specs.Touched.{no_words, stored_at, stored_by, word_area}
 

@@ -34,7 +34,8 @@ any-missed p first (suc n) i e l m =
     (cases_lt first i)
 
 -- for none of a range
-pub any-below : (p : ℕ → Bool) (first n : ℕ) → ((i : ℕ) → first ≤ i → i < first + n → p i ≡ false) → list_any p (range_with_len first n) ≡ false
+pub any-below : (p : ℕ → Bool) (first n : ℕ) → ((i : ℕ) → first ≤ i → i < first + n → p i ≡ false)
+    → list_any p (range_with_len first n) ≡ false
 any-below p first zero k = refl
 any-below p first (suc n) k =
     ap (λ (b : Bool). b || list_any p (range_with_len (first + 1) n)) (k first (omega arith) (omega arith))

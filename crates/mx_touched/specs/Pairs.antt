@@ -71,7 +71,8 @@ same_if_compared d f g h =
 abbrev pub flat_same_touched : ℕ → Flat → Flat → Touched → Bool
 flat_same_touched d f g t = same_touched (flat_reads f) f.core (flat_reads g) g.core d t
 
--- what is found after a turn of hart h that touched t in the first machine and u in the second, where the domain saw the same before: where it
+-- what is found after a turn of hart h that touched t in the first machine and u in the second, where the domain saw the same before: where
+-- it
 -- sees what was touched alike, hart h alone is left to compare; else agreement fails if any hart is compared
 abbrev pub found_known : ℕ → Flat → Flat → ℕ → Touched → Touched → Option Bool
 found_known d f g h t u =

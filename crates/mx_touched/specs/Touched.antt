@@ -54,7 +54,8 @@ stored_by c x inst = no_words
 abbrev pub stored_at : Reads → Core → ℕ → Area
 stored_at r c h = option_map_or (stored_by c (hart_at c h)) (standing_inst r c h) no_words
 
--- a call of each kind: rights in the range of a0 and a1; bytes and rights in the caller's heap area; rights there; a gate at the word of a0;
+-- a call of each kind: rights in the range of a0 and a1; bytes and rights in the caller's heap area; rights there; a gate at the word of
+-- a0;
 -- and the bytes of that word
 abbrev pub touched_by : Service → Core → Call → Touched
 touched_by Grant c call = record untouched { rights = range_area (arg_range c call) }

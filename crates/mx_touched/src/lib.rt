@@ -1,4 +1,5 @@
-//! What a turn touches of what agreement reads, and how two machines are watched by that: laws of the abstract machine's turns, each the
+//! What a turn touches of what agreement reads, and how two machines are watched by that: laws of the abstract
+//! machine's turns, each the
 //! contract of a function that does nothing.
 #![tactic(auto)]
 

@@ -3,10 +3,13 @@ ghost use Rattle.std.specs.Prelude.{◌≡◌, ◌≢◌, ℕ, Bool, true, false
 ghost use Rattle.mx_model.specs.declared.values.TurnKind.TheVariants as T;
 ghost use Rattle.mx_model.specs.Run.{all_halted, flat_kind, flat_turn};
 ghost use Rattle.mx_model.specs.State.{Flat};
-ghost use Rattle.mx_touched.specs.Pairs.{ArePair, IsRight, Knows, any_compared, fails, flat_touched, found_known, found_unknown, is_compared};
+ghost use Rattle.mx_touched.specs.Pairs.{ArePair, IsRight, Knows, any_compared, fails, flat_touched, found_known};
+ghost use Rattle.mx_touched.specs.Pairs.{found_unknown, is_compared};
 
-/// What is found after a turn of hart h in both machines is right: where agreement is said to fail it does, and else what is said to be
-/// known is so. Where something is known agreement doesn't fail. After a turn that just carries out an instruction, of a hart that
+/// What is found after a turn of hart h in both machines is right: where agreement is said to fail it does, and else
+/// what is said to be
+/// known is so. Where something is known agreement doesn't fail. After a turn that just carries out an instruction, of
+/// a hart that
 /// was compared before it, nothing need be compared.
 pub fn twins_are_found()
     ensures holds { (d : ℕ) (f g : Flat) (known : Bool) → ArePair f g → Knows d f g known →
@@ -24,9 +27,12 @@ pub fn twins_are_found()
         Knows d (flat_turn f h) (flat_turn g h) true }
 {}
 
-/// How two machines go on. At the start, where agreement doesn't fail, what is known follows from whether any hart is compared. A hart that
-/// is compared and after whose turn agreement fails for the first time made neither a turn that just carries out an instruction nor an
-/// idle one. Where all harts of both are halted agreement doesn't fail, and they are halted after any turn too. And a pair stays one.
+/// How two machines go on. At the start, where agreement doesn't fail, what is known follows from whether any hart is
+/// compared. A hart that
+/// is compared and after whose turn agreement fails for the first time made neither a turn that just carries out an
+/// instruction nor an
+/// idle one. Where all harts of both are halted agreement doesn't fail, and they are halted after any turn too. And a
+/// pair stays one.
 pub fn twins_go_on()
     ensures start { (d : ℕ) (f g : Flat) → ArePair f g → fails d f g ≡ false →
         Knows d f g (any_compared d f g) }

@@ -50,7 +50,8 @@ unfolding fields changes_text
 branched = refl
 
 -- a register that isn't as before, with its value after the turn; also where that is 0
-ran : did_line (deed T.Ran None (Some (I.Lui 11 0xABCDE000)) (goes 1 ((11, 7) ∷ [])) (goes 1 ((11, 0xABCDE000) ∷ []))) ≡ codes "did x11=0xabcde000\n"
+ran : did_line (deed T.Ran None (Some (I.Lui 11 0xABCDE000)) (goes 1 ((11, 7) ∷ [])) (goes 1 ((11, 0xABCDE000) ∷ [])))
+    ≡ codes "did x11=0xabcde000\n"
 unfolding fields changes_text digits
 ran = refl
 
@@ -61,39 +62,46 @@ unfolding fields changes_text digits
 ascending = refl
 
 -- a fault: a denied store stores nothing, and a denied load loads nothing
-denied-store : did_line (deed T.Trapped (fault 7 0x80000104) (Some (I.Store S.Sw 5 6 4)) (goes 1 ((5, 0x80000100) ∷ (6, 1) ∷ [])) (goes 1 ((5, 0x80000100) ∷ (6, 1) ∷ [])))
+denied-store : did_line (deed T.Trapped (fault 7 0x80000104) (Some (I.Store S.Sw 5 6 4)) (goes 1 ((5, 0x80000100) ∷ (6, 1) ∷ []))
+    (goes 1 ((5, 0x80000100) ∷ (6, 1) ∷ [])))
     ≡ codes "did fault=7/0x80000104\n"
 unfolding fields changes_text digits
 denied-store = refl
 
-denied-load : did_line (deed T.Trapped (fault 5 0x80000104) (Some (I.Load L.Lw 6 5 4)) (goes 1 ((5, 0x80000100) ∷ [])) (goes 1 ((5, 0x80000100) ∷ [])))
+denied-load : did_line (deed T.Trapped (fault 5 0x80000104) (Some (I.Load L.Lw 6 5 4)) (goes 1 ((5, 0x80000100) ∷ []))
+    (goes 1 ((5, 0x80000100) ∷ [])))
     ≡ codes "did fault=5/0x80000104\n"
 unfolding fields changes_text digits
 denied-load = refl
 
 -- an EBREAK inside a call sends the hart back to its caller, where the saved x8 and the code are
-sent-back : did_line (deed T.Trapped (fault 3 0x80000010) (Some I.Ebreak) (goes 2 ((8, 4) ∷ (10, 1) ∷ [])) (goes 12 ((8, 6) ∷ (10, 0xFFFFFF03) ∷ [])))
+sent-back : did_line (deed T.Trapped (fault 3 0x80000010) (Some I.Ebreak) (goes 2 ((8, 4) ∷ (10, 1) ∷ []))
+    (goes 12 ((8, 6) ∷ (10, 0xFFFFFF03) ∷ [])))
     ≡ codes "did fault=3/0x80000010 domain=12 x8=0x00000006 x10=0xffffff03\n"
 unfolding fields changes_text digits
 sent-back = refl
 
 -- call 1 ends the hart
-exited : did_line (deed T.Called (exit 4000000000) (Some I.Ecall) (goes 1 ((10, 4000000000) ∷ (17, 1) ∷ [])) (goes 1 ((10, 4000000000) ∷ (17, 1) ∷ [])))
+exited : did_line (deed T.Called (exit 4000000000) (Some I.Ecall) (goes 1 ((10, 4000000000) ∷ (17, 1) ∷ []))
+    (goes 1 ((10, 4000000000) ∷ (17, 1) ∷ [])))
     ≡ codes "did exit=4000000000 call=1\n"
 unfolding fields changes_text digits
 exited = refl
 
 -- a call is announced and its hart waits, and then it takes effect; its number stands in x17 before the turn
-announced : did_line (deed T.Called None (Some I.Ecall) (goes 1 ((10, 7) ∷ (17, 4) ∷ [])) (waits ((10, 7) ∷ (17, 4) ∷ []))) ≡ codes "did asks=4\n"
+announced : did_line (deed T.Called None (Some I.Ecall) (goes 1 ((10, 7) ∷ (17, 4) ∷ [])) (waits ((10, 7) ∷ (17, 4) ∷ [])))
+    ≡ codes "did asks=4\n"
 unfolding fields changes_text digits
 announced = refl
 
-served : did_line (deed T.Called None (Some I.Ecall) (waits ((10, 7) ∷ (17, 4) ∷ [])) (goes 1 ((10, 0) ∷ (17, 4) ∷ []))) ≡ codes "did call=4 x10=0x00000000\n"
+served : did_line (deed T.Called None (Some I.Ecall) (waits ((10, 7) ∷ (17, 4) ∷ [])) (goes 1 ((10, 0) ∷ (17, 4) ∷ [])))
+    ≡ codes "did call=4 x10=0x00000000\n"
 unfolding fields changes_text digits
 served = refl
 
 -- a number that no call has is told too
-refused : did_line (deed T.Called None (Some I.Ecall) (goes 1 ((10, 7) ∷ (17, 4294967295) ∷ [])) (goes 1 ((10, 0xFFFFFFF3) ∷ (17, 4294967295) ∷ [])))
+refused : did_line (deed T.Called None (Some I.Ecall) (goes 1 ((10, 7) ∷ (17, 4294967295) ∷ []))
+    (goes 1 ((10, 0xFFFFFFF3) ∷ (17, 4294967295) ∷ [])))
     ≡ codes "did call=4294967295 x10=0xfffffff3\n"
 unfolding fields changes_text digits
 refused = refl
@@ -141,26 +149,32 @@ store-word : did_line (stores S.Sw) ≡ codes "did store=0x80000104/4/0x89abcdef
 unfolding fields changes_text digits
 store-word = refl
 
--- at a gate the instruction that stands there doesn't run: it loads or stores nothing, whether the hart crosses or a dead target sends it back
-crossed : did_line (deed T.Crossed None (Some (I.Load L.Lw 6 5 0)) (goes 1 ((2, 0x80004000) ∷ [])) (goes 2 ((2, 0x80005000) ∷ []))) ≡ codes "did domain=2 x2=0x80005000\n"
+-- at a gate the instruction that stands there doesn't run: it loads or stores nothing, whether the hart crosses or a dead target sends it
+-- back
+crossed : did_line (deed T.Crossed None (Some (I.Load L.Lw 6 5 0)) (goes 1 ((2, 0x80004000) ∷ [])) (goes 2 ((2, 0x80005000) ∷ [])))
+    ≡ codes "did domain=2 x2=0x80005000\n"
 unfolding fields changes_text digits
 crossed = refl
 
-bounced : did_line (deed T.Returned None (Some (I.Store S.Sw 5 6 0)) (goes 1 ((5, 0x80000100) ∷ [])) (goes 1 ((5, 0x80000100) ∷ (10, 0xFFFFFF14) ∷ []))) ≡ codes "did x10=0xffffff14\n"
+bounced : did_line (deed T.Returned None (Some (I.Store S.Sw 5 6 0)) (goes 1 ((5, 0x80000100) ∷ []))
+    (goes 1 ((5, 0x80000100) ∷ (10, 0xFFFFFF14) ∷ []))) ≡ codes "did x10=0xffffff14\n"
 unfolding fields changes_text digits
 bounced = refl
 
 -- a return to a caller of another domain
-returned : did_line (deed T.Returned None (Some (I.Jalr 0 1 0)) (goes 2 ((9, 4) ∷ [])) (goes 1 ((9, 6) ∷ []))) ≡ codes "did domain=1 x9=0x00000006\n"
+returned : did_line (deed T.Returned None (Some (I.Jalr 0 1 0)) (goes 2 ((9, 4) ∷ [])) (goes 1 ((9, 6) ∷ [])))
+    ≡ codes "did domain=1 x9=0x00000006\n"
 unfolding fields changes_text digits
 returned = refl
 
 -- what is told of registers is told of those before the turn, and the fields stand in this order; no turn has all of these
-before-the-call : did_line (deed T.Called None (Some I.Ecall) (goes 1 ((17, 13) ∷ [])) (goes 1 ((17, 4) ∷ []))) ≡ codes "did call=13 x17=0x00000004\n"
+before-the-call : did_line (deed T.Called None (Some I.Ecall) (goes 1 ((17, 13) ∷ [])) (goes 1 ((17, 4) ∷ [])))
+    ≡ codes "did call=13 x17=0x00000004\n"
 unfolding fields changes_text digits
 before-the-call = refl
 
-in-order : did_line (deed T.Ran (fault 2 0) (Some (I.Store S.Sw 5 6 0)) (goes 1 ((5, 0x80000100) ∷ (6, 8) ∷ [])) (goes 2 ((5, 0x80000200) ∷ (6, 9) ∷ [])))
+in-order : did_line (deed T.Ran (fault 2 0) (Some (I.Store S.Sw 5 6 0)) (goes 1 ((5, 0x80000100) ∷ (6, 8) ∷ []))
+    (goes 2 ((5, 0x80000200) ∷ (6, 9) ∷ [])))
     ≡ codes "did fault=2/0x00000000 store=0x80000100/4/0x00000008 domain=2 x5=0x80000200 x6=0x00000009\n"
 unfolding fields changes_text digits
 in-order = refl

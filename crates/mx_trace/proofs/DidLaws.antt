@@ -1,7 +1,9 @@
 -- The line of what a turn did, field by field.
-use Rattle.std.proofs.Common.{◌≡◌, ℕ, suc, ◌+◌, ◌-◌, ◌<◌, ◌≤◌, ◌≢◌, List, [], ◌∷◌, ◌++◌, length, codes, slice_index, flat_map, refl, sym, ap, ◌∙◌, arith, append_assoc, length-append}
+use Rattle.std.proofs.Common.{◌≡◌, ℕ, ◌+◌, ◌-◌, ◌<◌, ◌≤◌, ◌≢◌, List, [], ◌∷◌, ◌++◌, length, codes, slice_index, flat_map, refl, sym, ap}
+use Rattle.std.proofs.Common.{◌∙◌, arith, append_assoc, length-append}
 use Rattle.std.specs.List.{range_with_len}
 use Rattle.mx_trace.specs.Did.{Deed, call_text, change_text, changes_text, domain_text, fields, line_of, note_text, ran_text}
+use Rattle.mx_tail.proofs.PassLaws.{range_next}
 
 -- of the registers from i on
 abbrev pub rest_text : List ℕ → List ℕ → ℕ → List ℕ
@@ -10,9 +12,6 @@ rest_text before after i = flat_map (λ i. change_text i (slice_index before i) 
 changes_whole : (before after : List ℕ) → changes_text before after ≡ rest_text before after 0
 unfolding changes_text
 changes_whole before after = refl
-
-range_next : (f : ℕ → List ℕ) (j k l : ℕ) → k ≡ suc l → flat_map f (range_with_len j k) ≡ f j ++ flat_map f (range_with_len (j + 1) l)
-range_next f j k l e = ap (λ i. flat_map f (range_with_len j i)) e
 
 rest_next : (before after : List ℕ) (i : ℕ) → i < 32
     → rest_text before after i ≡ change_text i (slice_index before i) (slice_index after i) ++ rest_text before after (i + 1)
@@ -31,22 +30,27 @@ rest_more before after i k old e h p q =
     q ∙ ap (λ xs. one ++ xs) p ∙ sym (append_assoc one (rest_text before after i) old)
     ∙ ap (λ xs. xs ++ old) (ap (λ j. one ++ rest_text before after j) e ∙ sym (rest_next before after k (omega (arith, e, h))))
 
-pub rest_all : (before after : List ℕ) (i : ℕ) (old : List ℕ) {line : List ℕ} → i ≤ 0 → line ≡ rest_text before after i ++ old → line ≡ changes_text before after ++ old
+pub rest_all : (before after : List ℕ) (i : ℕ) (old : List ℕ) {line : List ℕ} → i ≤ 0 → line ≡ rest_text before after i ++ old
+    → line ≡ changes_text before after ++ old
 rest_all before after i old h p =
     let e : i ≡ 0 = omega (arith, h) in
     p ∙ ap (λ j. rest_text before after j ++ old) e ∙ ap (λ xs. xs ++ old) (sym (changes_whole before after))
 
 -- the fields part by part
 fields_parts : (d : Deed)
-    → fields d ≡ note_text d.note ++ (call_text d.kind d.after.waits d.before.regs ++ (ran_text d.kind d.inst d.before.regs ++ (domain_text d.before.domain d.after.domain ++ (changes_text d.before.regs d.after.regs ++ []))))
+    → fields d ≡ note_text d.note ++ (call_text d.kind d.after.waits d.before.regs
+    ++ (ran_text d.kind d.inst d.before.regs ++ (domain_text d.before.domain d.after.domain
+    ++ (changes_text d.before.regs d.after.regs ++ []))))
 unfolding fields
 fields_parts d = refl
 
 five_before : (a b c d e old : List ℕ) → (a ++ (b ++ (c ++ (d ++ (e ++ []))))) ++ old ≡ a ++ (b ++ (c ++ (d ++ (e ++ old))))
 five_before a b c d e old = simp append_assoc
 
-pub fields_before : (d : Deed) (l : List ℕ) {m n o p q : List ℕ} → m ≡ changes_text d.before.regs d.after.regs ++ l → n ≡ domain_text d.before.domain d.after.domain ++ m
-    → o ≡ ran_text d.kind d.inst d.before.regs ++ n → p ≡ call_text d.kind d.after.waits d.before.regs ++ o → q ≡ note_text d.note ++ p → q ≡ fields d ++ l
+pub fields_before : (d : Deed) (l : List ℕ) {m n o p q : List ℕ} → m ≡ changes_text d.before.regs d.after.regs ++ l
+    → n ≡ domain_text d.before.domain d.after.domain ++ m
+    → o ≡ ran_text d.kind d.inst d.before.regs ++ n → p ≡ call_text d.kind d.after.waits d.before.regs ++ o → q ≡ note_text d.note ++ p
+    → q ≡ fields d ++ l
 fields_before d l e f g h i =
     let note = note_text d.note in
     let call = call_text d.kind d.after.waits d.before.regs in

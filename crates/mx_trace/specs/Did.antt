@@ -1,6 +1,7 @@
 -- The line of what a turn did: its fault or exit, its call, its load or store, and what it changed of its hart.
 -- The rules: docs/COMMANDS.md, "What a turn did".
-use Rattle.std.specs.Prelude.{ℕ, Bool, true, false, ◌*◌, ◌^◌, ◌%◌, ◌==◌, if◌then◌else◌, List, [], ◌∷◌, codes, decimal, flat_map, slice_index, Option, None, Some}
+use Rattle.std.specs.Prelude.{ℕ, Bool, true, false, ◌*◌, ◌^◌, ◌%◌, ◌==◌, if◌then◌else◌, List, [], ◌∷◌, codes, decimal, flat_map}
+use Rattle.std.specs.Prelude.{slice_index, Option, None, Some}
 use Rattle.std.specs.List.{concat, range_with_len}
 use Rattle.mx_isa.specs.declared.inst.Inst.{Inst}
 use Rattle.mx_isa.specs.declared.inst.Inst.TheVariants.{Load, Store}
@@ -13,7 +14,8 @@ use Rattle.mx_model.specs.Effect.{load_size, plus, reg, store_size}
 use Rattle.mx_trace.specs.declared.did.Held.{Held}
 use Rattle.mx_trace.specs.declared.did.Turned.{Turned}
 
--- a turn of a hart that there is: what it was, its line of the report and the instruction at which the hart stood, if any; the hart before it and after it
+-- a turn of a hart that there is: what it was, its line of the report and the instruction at which the hart stood, if any; the hart before
+-- it and after it
 pub record Deed : Type 0 where
   pub kind : TurnKind
   pub note : Option Note

@@ -3,7 +3,9 @@ ghost use Rattle.std.specs.Prelude.{◌≡◌, ◌+◌, ◌*◌, ◌%◌, ◌^�
 ghost use Rattle.mx_isa.specs.Ranges.{IsValid};
 ghost use Rattle.mx_model.specs.Effect.{load_size, store_size};
 ghost use Rattle.mx_tail.specs.Tail.{Passes, piece_bytes};
-ghost use Rattle.mx_trace.specs.Did.{access_text, accessed_text, call_text, change_text, changes_text, deed, did_line, domain_text, exit_text, fault_text, fields, load_text, note_text, noted_text, ran_text, store_text};
+ghost use Rattle.mx_trace.specs.Did.{access_text, accessed_text, call_text, change_text, changes_text, deed, did_line};
+ghost use Rattle.mx_trace.specs.Did.{domain_text, exit_text, fault_text, fields, load_text, note_text, noted_text};
+ghost use Rattle.mx_trace.specs.Did.{ran_text, store_text};
 
 use crate::line::Line;
 use mx_io::{Failed, Sink};
@@ -33,7 +35,8 @@ pub struct Turned {
     pub inst: Option<Inst>,
 }
 
-/// Puts the line of what a turn did, by its hart before and after it: `did F F ..`, or nothing where it has no field. The
+/// Puts the line of what a turn did, by its hart before and after it: `did F F ..`, or nothing where it has no field.
+/// The
 /// instruction is one that `is_valid` accepts. Where a write fails, a prefix of the line was appended.
 pub fn put_did<R: Sink>(
     tail: &mut Tail,

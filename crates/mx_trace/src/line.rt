@@ -7,7 +7,8 @@ use itoa::write_digits;
 use mx_io::hex_number;
 use std::marker::Model;
 
-/// A text of at most N bytes, put together from its end to its start: what is put stands before what is there. So the digits of a
+/// A text of at most N bytes, put together from its end to its start: what is put stands before what is there. So the
+/// digits of a
 /// number are written where they stay, and a line leaves at once.
 #[derive(Drop)]
 pub(crate) struct Line<const N: usize> {

@@ -38,9 +38,12 @@ pub fn kind_name(kind: TurnKind) -> &'static str
     }
 }
 
-/// Puts the line of a turn: `turn S H D 0xP K TEXT`, with the number of turns made, this one included, the hart, its domain and pc
-/// before the turn, what the turn was, and the text of the instruction at pc. Where there is none to show the text is `-`, and so
-/// are domain and address for a hart that there isn't. The instruction is one that `is_valid` accepts. Where a write fails, a
+/// Puts the line of a turn: `turn S H D 0xP K TEXT`, with the number of turns made, this one included, the hart, its
+/// domain and pc
+/// before the turn, what the turn was, and the text of the instruction at pc. Where there is none to show the text is
+/// `-`, and so
+/// are domain and address for a hart that there isn't. The instruction is one that `is_valid` accepts. Where a write
+/// fails, a
 /// prefix of the line was appended.
 pub fn turn_line<R: Sink>(
     sink: &mut R,

@@ -3,16 +3,20 @@ ghost use Rattle.std.specs.Prelude.{◌≡◌, ◌+◌, ◌≤◌, ◌++◌, len
 ghost use Rattle.mx_isa.specs.Ranges.{IsValid};
 ghost use Rattle.mx_io.specs.Sink.{Puts};
 ghost use Rattle.mx_source.specs.Mnemonics.{form_name};
-ghost use Rattle.mx_trace.specs.Text.{upper_text, jump_text, pair_text, indexed_text, register_text, fence_text, inst_text};
+ghost use Rattle.mx_trace.specs.Text.{upper_text, jump_text, pair_text, indexed_text, register_text, fence_text};
+ghost use Rattle.mx_trace.specs.Text.{inst_text};
 
 use crate::line::Line;
 use mx_io::{Failed, Sink, put_all};
 use mx_isa::Inst;
 use mx_source::{Form, form_name};
 
-/// Appends the text of an instruction: the statement that the assembler takes for it, with registers as x0 to x31 and numbers in
-/// decimal. `lui` and `auipc` have their upper 20 bits, jumps and branches their offset in bytes, shifts their amount, `fence`
-/// its fields, and all others with an immediate its signed value. The instruction is one that `is_valid` accepts. Where a
+/// Appends the text of an instruction: the statement that the assembler takes for it, with registers as x0 to x31 and
+/// numbers in
+/// decimal. `lui` and `auipc` have their upper 20 bits, jumps and branches their offset in bytes, shifts their amount,
+/// `fence`
+/// its fields, and all others with an immediate its signed value. The instruction is one that `is_valid` accepts. Where
+/// a
 /// write fails, a prefix of the text was appended.
 pub fn disassemble<R: Sink>(sink: &mut R, inst: &Inst) -> Result<(), Failed>
     requires { IsValid inst.now }

@@ -25,7 +25,17 @@ pub record IsAhead (most : ℕ) (p : Perm) (m : List Perm) (at r : ℕ) : Type 0
 pub is-ahead : (most : ℕ) (p : Perm) (m : List Perm) (at : ℕ) → IsAhead most p m at (ahead most p m at)
 is-ahead most p m at =
     let there : (k : ℕ) → at ≤ k → perm_at m k ≡ perm_at (drop at m) (k - at) = search (arith, get_or-drop) in
-    search (arith, there, prefix_len_passes (same p) (drop at m), prefix_len_stops (same p) (drop at m), same_eq, same_from, prefix_len-le-length (same p) (drop at m), length-drop at m)
+    search (
+      arith,
+      there,
+      prefix_len_passes (same p) (drop at m),
+      prefix_len_stops (same p)
+          (drop at m),
+      same_eq,
+      same_from,
+      prefix_len-le-length (same p) (drop at m),
+      length-drop at m,
+    )
 
 pub is-back : (most : ℕ) (p : Perm) (m : List Perm) (at : ℕ) → at ≤ length m → IsBack most p m at (back most p m at)
 is-back most p m at inside =

@@ -1,5 +1,6 @@
 -- Lines, pages, regions and domains built for a map: the laws of BuiltTables at each level, and the frames that they take.
-use Rattle.std.proofs.Common.{◌≡◌, ◌≢◌, ℕ, zero, suc, ◌+◌, ◌*◌, ◌/◌, ◌<◌, ◌≤◌, Bool, true, false, List, [], length, None, inl, inr, refl, sym, ap, ◌∙◌, subst, arith}
+use Rattle.std.proofs.Common.{◌≡◌, ◌≢◌, ℕ, zero, suc, ◌+◌, ◌*◌, ◌/◌, ◌<◌, ◌≤◌, Bool, true, false, List, [], length, None, inl, inr, refl}
+use Rattle.std.proofs.Common.{sym, ap, ◌∙◌, subst, arith}
 use Rattle.mx_words.specs.declared.perm.Perm.{Perm}
 use Rattle.mx_words.specs.declared.tables.Kind.{Kind}
 use Rattle.mx_words.specs.Blocks.{is_broken, IsEven}
@@ -11,7 +12,9 @@ use Rattle.mx_pool.specs.Frames.{frame_at, IsTaken, word_at, free_in}
 use Rattle.mx_trie.specs.Leaf.{IsTrieKind, needs_spill}
 use Rattle.mx_trie.specs.Walk.{Frames, is_pointer, target, root_place, root_word}
 use Rattle.mx_trie.specs.Steps.{IsPlaceWritten}
-use Rattle.mx_trie.specs.Built.{page_crowd, region_crowd, region_broken, AreTaken, pools, LinesOwn, LineStands, PagesOwning, PageStands, RegionsOwning, RegionStands, Own, IsLineBuilt, AreLinesBuilt, IsPageBuilt, ArePagesBuilt, IsRegionBuilt, AreRegionsBuilt}
+use Rattle.mx_trie.specs.Built.{page_crowd, region_crowd, region_broken, AreTaken, pools, LinesOwn, LineStands, PagesOwning, PageStands}
+use Rattle.mx_trie.specs.Built.{RegionsOwning, RegionStands, Own, IsLineBuilt, AreLinesBuilt, IsPageBuilt, ArePagesBuilt, IsRegionBuilt}
+use Rattle.mx_trie.specs.Built.{AreRegionsBuilt}
 use Rattle.mx_trie.proofs.PageLines.{word-kept, line-kept}
 use Rattle.mx_trie.proofs.PageTables.{vector-closed}
 use Rattle.mx_trie.proofs.FlatLaws.{flat-needs, even-line, region-page-even}
@@ -68,8 +71,10 @@ module _ (kind : Kind) (k : IsTrieKind kind) (m : List Perm) (y : ℕ) where
     arith,
     sum_below-more,
     λ (upper : Frames). built-more _ _
-        (λ s s' z e line kept. (λ a g own. own, line-kept kind k s.spill s'.spill m z e (λ g is. kept 2 g (refl, is)) line)) _ _ _ (pools upper leaf'' spill'') _ _ n _ (word_at leaf'' frame) e
-        (are.built upper) (line.built upper leaf') (λ a g not. grind (arith, written.elsewhere)) (λ a g own. grind arith) (λ i below. written.others i (λ h. omega arith)) written.here,
+        (λ s s' z e line kept. (λ a g own. own, line-kept kind k s.spill s'.spill m z e (λ g is. kept 2 g (refl, is)) line)) _ _ _
+        (pools upper leaf'' spill'') _ _ n _ (word_at leaf'' frame) e
+        (are.built upper) (line.built upper leaf') (λ a g not. grind (arith, written.elsewhere)) (λ a g own. grind arith) (λ i below.
+        written.others i (λ h. omega arith)) written.here,
   )
 
   -- the page's entry
@@ -80,7 +85,11 @@ module _ (kind : Kind) (k : IsTrieKind kind) (m : List Perm) (y : ℕ) where
     arith,
     broken,
     λ (upper : Frames). table-built (LinesOwn kind) (PagesOwning kind) (LineStands kind m) (PageStands kind m)
-        _ _ (Own 1 (target e)) _ 64 _ y e (lines.built upper) (λ a g o. o.1) (λ p. search (arith, lines.built [], (lines.built []).self, (lines.built []).other), search (arith, (lines.built []).stand)),
+        _ _ (Own 1 (target e)) _ 64 _ y e (lines.built upper) (λ a g o. o.1) (
+          λ p.
+              search (arith, lines.built [], (lines.built []).self, (lines.built []).other),
+          search (arith, (lines.built []).stand),
+        ),
   )
 
   -- the pages of a region y
@@ -96,9 +105,16 @@ module _ (kind : Kind) (k : IsTrieKind kind) (m : List Perm) (y : ℕ) where
   pages-built-more upper leaf spill upper' leaf' spill' upper'' leaf'' spill'' frame n e are page written = search (
     arith,
     sum_below-more,
-    built-more _ _ (λ s s' b e p kept.
-        (page-owns-same kind _ _ _ _ _ _ e kept, (page-table-kept kind _ _ _ _ _ _ e kept p.0, page-kept kind _ _ _ _ _ _ e kept k m b p.1))) _ _ _ (pools upper'' leaf'' spill'') _ _ n _
-        (word_at upper'' frame) e are.built (page.built upper') (λ a g not. grind (arith, written.elsewhere)) (λ a g own. grind arith) (search (arith, written.others)) written.here,
+    built-more _ _ (λ s s' b e p kept. (
+      page-owns-same kind _ _ _ _ _ _ e kept,
+      (
+        page-table-kept kind _ _ _ _ _ _ e kept p.0,
+        page-kept kind _ _ _ _ _ _ e kept k m b
+            p.1,
+      ),
+    )) _ _ _ (pools upper'' leaf'' spill'') _ _ n _
+        (word_at upper'' frame) e are.built (page.built upper') (λ a g not. grind (arith, written.elsewhere)) (λ a g own. grind arith)
+        (search (arith, written.others)) written.here,
   )
 
   -- the region's entry
@@ -108,25 +124,28 @@ module _ (kind : Kind) (k : IsTrieKind kind) (m : List Perm) (y : ℕ) where
       IsRegionBuilt kind upper leaf spill upper' leaf' spill' m y e
   region-built upper leaf spill upper' leaf' spill' e pointer broken pages = assumption (
     subst (AreTaken upper upper') (sym (ap bit broken)) pages.upper_taken,
-    table-built (PagesOwning kind) (RegionsOwning kind) (PageStands kind m) (RegionStands kind m) _ _ (Own 0 (target e)) _ 1024 _ y e pages.built (λ a g o. o.1) (
-      λ p. record {
-        node =
-            search (pages.built.self, pages.built.other);
-        tables = λ i b. (pages.built.stand i b).0;
-      },
-      record { broken = cc; vector_is = λ c. absurd (cc); pages = λ p i b. (pages.built.stand i b).1 },
-    ),
+    table-built (PagesOwning kind) (RegionsOwning kind) (PageStands kind m) (RegionStands kind m) _ _ (Own 0 (target e)) _ 1024 _ y e
+        pages.built (λ a g o. o.1) (
+          λ p. record {
+            node =
+                search (pages.built.self, pages.built.other);
+            tables = λ i b. (pages.built.stand i b).0;
+          },
+          record { broken = cc; vector_is = λ c. absurd (cc); pages = λ p i b. (pages.built.stand i b).1 },
+        ),
   )
 
 -- the pages of an even region
 module _ (kind : Kind) (m : List Perm) (x : ℕ) (whole : is_broken region_words m x ≡ false) where
   pub even-broken : region_broken m x ≡ 0
   even-broken =
-      sum_below-none 1024 _ (λ i b. ap bit (whole-by 1024 128 m _ refl refl (omega arith) (region-page-even m x _ (omega arith) (even-of _ 131072 m x refl refl (omega arith) whole)).parts))
+      sum_below-none 1024 _ (λ i b. ap bit (whole-by 1024 128 m _ refl refl (omega arith)
+      (region-page-even m x _ (omega arith) (even-of _ 131072 m x refl refl (omega arith) whole)).parts))
 
   pub even-crowds : region_crowd kind m x ≡ 0
   even-crowds =
-      sum_below-none 1024 _ (λ i below. even-crowd kind m _ (region-page-even m x _ (omega arith) (even-of 1048576 131072 m x refl refl (omega arith) whole)))
+      sum_below-none 1024 _ (λ i below. even-crowd kind m _ (region-page-even m x _ (omega arith)
+      (even-of 1048576 131072 m x refl refl (omega arith) whole)))
 
   pub region-even : (upper leaf spill : Frames) (e : ℕ) → e ≡ vector region_words m (x * region_words) →
       IsRegionBuilt kind upper leaf spill upper leaf spill m x e
@@ -147,11 +166,18 @@ module _ (kind : Kind) (k : IsTrieKind kind) (m : List Perm) where
       IsTaken upper'' root → ((g : ℕ) → g ≢ root → frame_at upper'' g ≡ frame_at between g) →
       free_in upper'' ≡ free_in between → length upper'' ≡ length between →
       AreRegionsBuilt kind upper leaf spill upper'' leaf'' spill'' m root (n + 1)
-  regions-built-more upper leaf spill upper' leaf' spill' between upper'' leaf'' spill'' root n e are region here others taken elsewhere free total = search (
-    arith,
-    sum_below-more,
-    built-more _ _
-        (λ s s' x e r kept. (region-owns-same kind _ _ _ _ _ _ e kept, (region-table-kept kind _ _ _ _ _ _ e kept r.0, region-kept kind _ _ _ _ _ _ e kept k m x r.1))) _ _ _
-        (pools upper'' leaf'' spill'') _ _ n _ (root_word upper'' root) e are.built region.built (λ a g not. grind (arith, elsewhere)) (λ a g own. grind arith)
-        (λ x below. others x (λ h. omega arith) ∙ word-kept upper' between root (root_place x) (region.built.stays 0 root (are.built.self 0 root (refl, refl)))) here,
-  )
+  regions-built-more upper leaf spill upper' leaf' spill' between upper'' leaf'' spill'' root n e are region here others taken elsewhere
+      free total = search (
+        arith,
+        sum_below-more,
+        built-more _ _
+            (λ s s' x e r kept. (
+              region-owns-same kind _ _ _ _ _ _ e
+                  kept,
+              (region-table-kept kind _ _ _ _ _ _ e kept r.0, region-kept kind _ _ _ _ _ _ e kept k m x r.1),
+            )) _ _ _
+            (pools upper'' leaf'' spill'') _ _ n _ (root_word upper'' root) e are.built region.built (λ a g not. grind (arith, elsewhere))
+            (λ a g own. grind arith)
+            (λ x below. others x (λ h. omega arith) ∙ word-kept upper' between root (root_place x)
+            (region.built.stays 0 root (are.built.self 0 root (refl, refl)))) here,
+      )

@@ -20,7 +20,8 @@ use Rattle.mx_trie.specs.Owned.{DomainOwns}
 use Rattle.mx_trie.specs.Laying.{spill_lines}
 use Rattle.mx_trie.specs.After.{IsNeedOf}
 use Rattle.mx_trie.specs.Standing.{root_at}
-use Rattle.mx_trie.specs.Built.{region_broken, region_crowd, AreTaken, pools, RegionsOwning, RegionStands, DomainsOwning, DomainStands, Own, AreBuilt, AreRegionsBuilt, IsRoomFor, AreDomainsBuilt}
+use Rattle.mx_trie.specs.Built.{region_broken, region_crowd, AreTaken, pools, RegionsOwning, RegionStands, DomainsOwning, DomainStands, Own}
+use Rattle.mx_trie.specs.Built.{AreBuilt, AreRegionsBuilt, IsRoomFor, AreDomainsBuilt}
 use Rattle.mx_trie.proofs.BuiltTables.{built-more, table-built}
 use Rattle.mx_trie.proofs.BuiltBlocks.{sum-within}
 use Rattle.mx_trie.proofs.DomainFrames.{domain-owns-same, domain-table-kept, domain-kept}
@@ -43,8 +44,10 @@ pub need-more : (kind : Kind) (n : ℕ) (maps : ℕ → List Perm) (all one : Ne
 need-more kind n maps all one so upper leaf spill = search (arith, sum_below-more)
 
 -- the first n rows have their tables
-pub record AreRowsBuilt (kind : Kind) (maps : ℕ → List Perm) (upper leaf spill upper' leaf' spill' : Frames) (roots : List ℕ) (n : ℕ) : Type 0 where
-  pub built : AreBuilt (DomainsOwning kind) (DomainStands kind maps) (pools upper leaf spill) (pools upper' leaf' spill') (λ a g. ⊥) (λ d. d) n (root_at roots)
+pub record AreRowsBuilt (kind : Kind) (maps : ℕ → List Perm) (upper leaf spill upper' leaf' spill' : Frames) (roots : List ℕ) (n : ℕ) : Type
+    0 where
+  pub built : AreBuilt (DomainsOwning kind) (DomainStands kind maps) (pools upper leaf spill) (pools upper' leaf' spill') (λ a g. ⊥) (λ d.
+      d) n (root_at roots)
   pub upper_taken : AreTaken upper upper' (sum_below n (λ d. 1 + broken_blocks region_words (maps d)))
   pub leaf_taken : AreTaken leaf leaf' (sum_below n (λ d. broken_blocks page_words (maps d)))
   pub spill_taken : AreTaken spill spill' (sum_below n (λ d. spill_lines kind (maps d)))
@@ -70,19 +73,39 @@ module _ (kind : Kind) (k : IsTrieKind kind) (maps : ℕ → List Perm) (upper l
 
       pub leaf-left : sum_below most_regions (region_broken m) ≤ free_in leaf'
       leaf-left =
-          omega (arith, pages-broken kind m few ∙ ap (broken_blocks page_words) is, sum-within n most (λ d. broken_blocks page_words (maps d)) below, room.told.leaf)
+          omega (
+            arith,
+            pages-broken kind m few ∙ ap (broken_blocks page_words) is,
+            sum-within n most (λ d.
+                broken_blocks page_words (maps d)) below,
+            room.told.leaf,
+          )
 
       pub spill-left : sum_below most_regions (region_crowd kind m) ≤ free_in spill'
       spill-left =
-          omega (arith, regions-crowded kind m ∙ ap (spill_lines kind) is, sum-within n most (λ d. spill_lines kind (maps d)) below, room.told.spill)
+          omega (
+            arith,
+            regions-crowded kind m ∙ ap (spill_lines kind) is,
+            sum-within n most (λ d. spill_lines kind (maps d))
+                below,
+            room.told.spill,
+          )
 
     module _ (upper'' leaf'' spill'' : Frames) (root : ℕ)
         (domain : AreRegionsBuilt kind upper' leaf' spill' upper'' leaf'' spill'' m root most_regions) where
       pub rows-more : (roots' : List ℕ) → roots' ≡ roots ++ root ∷ [] →
           AreRowsBuilt kind maps upper leaf spill upper'' leaf'' spill'' roots' (n + 1)
       rows-more roots' pushed =
-          let one = table-built (RegionsOwning kind) (DomainsOwning kind) (RegionStands kind m) (DomainStands kind maps) _ _ (Own 0 root) _ most_regions _ n root domain.built
-          (λ a g o. o) (record { node = search (arith, domain.built.self, domain.built.other); tables = λ x b. (domain.built.stand x b).0 }, rw (← is) (λ x b. (domain.built.stand x b).1)) in
+          let one = table-built (RegionsOwning kind) (DomainsOwning kind) (RegionStands kind m) (DomainStands kind maps) _ _ (Own 0 root) _
+          most_regions _ n root domain.built
+          (λ a g o. o) (
+            record {
+              node = search (arith, domain.built.self, domain.built.other);
+              tables = λ x b.
+                  (domain.built.stand x b).0;
+            },
+            rw (← is) (λ x b. (domain.built.stand x b).1),
+          ) in
           search (
             arith,
             sum_below-more,
@@ -92,9 +115,14 @@ module _ (kind : Kind) (k : IsTrieKind kind) (maps : ℕ → List Perm) (upper l
             pages-broken kind m few ∙ ap (broken_blocks page_words) is,
             regions-crowded kind m ∙ ap (spill_lines kind) is,
             built-more _ _
-                (λ s s' d e t kept. (domain-owns-same kind _ _ _ _ _ _ e kept, (domain-table-kept kind _ _ _ _ _ _ e kept t.0, domain-kept kind _ _ _ _ _ _ e kept k _ t.1))) _ _ _
+                (λ s s' d e t kept. (
+                  domain-owns-same kind _ _ _ _ _ _ e
+                      kept,
+                  (domain-table-kept kind _ _ _ _ _ _ e kept t.0, domain-kept kind _ _ _ _ _ _ e kept k _ t.1),
+                )) _ _ _
                 (pools upper'' leaf'' spill'') _ _ n _ (root_at roots') root rows.built one (λ a g not. refl) (λ a g mine. absurd mine)
-                (λ d below. rw pushed (get_or_append_left roots (root ∷ []) 0 d (omega (arith, rows.count)))) (rw pushed (get_or_push roots root 0 n rows.count)),
+                (λ d below. rw pushed (get_or_append_left roots (root ∷ []) 0 d (omega (arith, rows.count))))
+                (rw pushed (get_or_push roots root 0 n rows.count)),
           )
 
 -- all rows have their tables
@@ -111,8 +139,12 @@ module _ (kind : Kind) (k : IsTrieKind kind) (words : ℕ) (few : words ≤ most
         rows.count,
         sum_below-each n 1 (λ d. broken_blocks region_words (maps d)),
         rows.built.stand,
-        λ (d : ℕ) (below : d < n). read_map-is kind k upper' leaf' spill' (maps d) (omega (arith, long d)) (root_at roots d) words (rows.built.stand d below).1 (long d),
-        sum_below_agree n _ _ (λ d below. mids-shown kind k upper' leaf' spill' (maps d) (omega (arith, long d)) (root_at roots d) (rows.built.stand d below).1),
-        sum_below_agree n _ _ (λ d below. leaves-shown kind k upper' leaf' spill' (maps d) (omega (arith, long d)) (root_at roots d) (rows.built.stand d below).1),
-        sum_below_agree n _ _ (λ d below. spills-shown kind k upper' leaf' spill' (maps d) (omega (arith, long d)) (root_at roots d) (rows.built.stand d below).1),
+        λ (d : ℕ) (below : d < n). read_map-is kind k upper' leaf' spill' (maps d) (omega (arith, long d)) (root_at roots d) words
+            (rows.built.stand d below).1 (long d),
+        sum_below_agree n _ _ (λ d below. mids-shown kind k upper' leaf' spill' (maps d) (omega (arith, long d)) (root_at roots d)
+            (rows.built.stand d below).1),
+        sum_below_agree n _ _ (λ d below. leaves-shown kind k upper' leaf' spill' (maps d) (omega (arith, long d)) (root_at roots d)
+            (rows.built.stand d below).1),
+        sum_below_agree n _ _ (λ d below. spills-shown kind k upper' leaf' spill' (maps d) (omega (arith, long d)) (root_at roots d)
+            (rows.built.stand d below).1),
       )

@@ -21,13 +21,34 @@ module _ (Owns : Owning) (Stands : Standing) (steady : IsSteady Owns Stands) (s0
   owned : (k a g : ℕ) → k < n + 1 → Owns s' (entry' k) a g →
       ((k < n) × Owns s (entry k) a g) ⊎ ((k ≡ n) × Owns sm e a g)
   owned k a g below own = elim (cases_below k n (omega arith)) [
-    | inl h ↦ inl (h, (steady s s' (block k) (entry k) (are.stand k h) (search (write, part.stays, are.parts.taken, are.other))).0 a g (rw (others k h) at own))
+    | inl h ↦ inl (
+      h,
+      (steady s s' (block k) (entry k) (are.stand k h) (search (write, part.stays, are.parts.taken, are.other))).0 a g
+          (rw (others k h) at own),
+    )
     | inr h ↦ inr (h, (steady sm s' (block n) e part.stands (search (write, part.fresh, are.self))).0 a g (rw here at (rw h at own)))
   ]
 
   pub built-more : AreBuilt Owns Stands s0 s' Self block (n + 1) entry'
   built-more =
-      search (arith, owned, are.parts.apart, are.parts.taken, part.fresh, part.taken, write, part.stays, are.self, are.other, taken-on, are.stays, are.fresh, steady, others, are.stand)
+      search (
+        arith,
+        owned,
+        are.parts.apart,
+        are.parts.taken,
+        part.fresh,
+        part.taken,
+        write,
+        part.stays,
+        are.self,
+        are.other,
+        taken-on,
+        are.stays,
+        are.fresh,
+        steady,
+        others,
+        are.stand,
+      )
 
 -- the entry of a table that is built, at the level above, which owns what the table and its entries own
 pub table-built : (Owns Owns' : Owning) (Stands Stands' : Standing) (s s' : Pools) (Self : ℕ → ℕ →

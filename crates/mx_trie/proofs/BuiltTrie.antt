@@ -22,7 +22,8 @@ use Rattle.mx_trie.proofs.ListedMaps.{read-as}
 module _ (kind : Kind) (k : IsTrieKind kind) (words : ℕ) (few : words ≤ most_words) (rows : List (List Span)) where
   told : IsNeedOf kind (length rows) (rows_map words rows) (need kind (list_map (row_map words) rows))
   told =
-      need-listed kind k _ _ _ (length-map rows (row_map words)) (λ d below. get_or-map (row_map words) rows d [] [] below) (λ d below. omega (arith, few, length-row words (get_or rows d [])))
+      need-listed kind k _ _ _ (length-map rows (row_map words)) (λ d below. get_or-map (row_map words) rows d [] [] below) (λ d below.
+      omega (arith, few, length-row words (get_or rows d [])))
 
   -- what is told by the rows is the need of their maps
   pub rows-need : (n : Need) → IsNeedOf kind (length rows) (rows_map words rows) n →

@@ -43,4 +43,12 @@ pub edges-two : (first last one two : ℕ) (test : ℕ → Bool) (told told' : B
     one ≡ bool_byte told → told ≡ test first → two ≡ bool_byte told' → told' ≡ test last →
     one + two ≡ count_from first (last + 1) test
 edges-two first last one two test told told' less inner is here is' there =
-    search (arith, edges-one, counted_more, byte-bit, bit-le, count_below_still (first + 1 - first) (last - first) (λ i. test (first + i)) (omega arith) (λ i a b. inner _ (omega arith) (omega arith)))
+    search (
+      arith,
+      edges-one,
+      counted_more,
+      byte-bit,
+      bit-le,
+      count_below_still (first + 1 - first) (last - first) (λ i. test (first + i))
+          (omega arith) (λ i a b. inner _ (omega arith) (omega arith)),
+    )

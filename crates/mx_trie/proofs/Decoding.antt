@@ -1,5 +1,6 @@
 -- How a line is read back from its codes.
-use Rattle.std.proofs.Common.{◌≡◌, ◌≢◌, ℕ, ◌+◌, ◌/◌, ◌%◌, ◌<◌, ◌≤◌, List, [], ◌∷◌, length, drop, set, refl, ap, ◌∙◌, arith, get_or-set_same, get_or-set_other, length-drop}
+use Rattle.std.proofs.Common.{◌≡◌, ◌≢◌, ℕ, ◌+◌, ◌/◌, ◌%◌, ◌<◌, ◌≤◌, List, [], ◌∷◌, length, drop, set, refl, ap, ◌∙◌, arith, get_or-set_same}
+use Rattle.std.proofs.Common.{get_or-set_other, length-drop}
 use Rattle.std.proofs.lemmas.Bool.{eqb-true, cases_eq}
 use Rattle.std.proofs.lemmas.List.{drop_more, ext_get_or}
 use Rattle.mx_words.specs.declared.perm.Perm.{Perm}
@@ -37,7 +38,19 @@ decoded-ended perms line place values starts p whole long below d e at =
     let n : ℕ = place + 1 in
     let ends : n < length perms → number (perm_at perms place) ≢ number (perm_at perms n) = λ h.
     grind (arith, start_code-later n (drop n perms) n, length-drop n perms, start_code-same perms place n refl h, d.starts_left below) in
-    search (arith, get_or-set_same, get_or-set_other, cases_eq, value_code-other, start_code-other, number-small, d.done, d.values_left, d.starts_left, ends)
+    search (
+      arith,
+      get_or-set_same,
+      get_or-set_other,
+      cases_eq,
+      value_code-other,
+      start_code-other,
+      number-small,
+      d.done,
+      d.values_left,
+      d.starts_left,
+      ends,
+    )
 
 pub decoded-going : (perms line : List Perm) (place values starts : ℕ) (p : Perm) → length perms ≡ 16 →
     length line ≡ 16 → place < 16 →

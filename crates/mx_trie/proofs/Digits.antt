@@ -32,5 +32,6 @@ digit-packed (p ∷ ps) (suc i) =
 -- the digits of a number in which one digit stands eight times
 pub flat-digits : (n e : ℕ) → n ≡ 21845 * (n % 4) → e < 8 → digit n e ≡ n % 4
 flat-digits n e same below = let P : ℕ → Type 0 = λ k. digit n k ≡ n % 4 in let m = below_more P in
-    m 7 (m 6 (m 5 (m 4 (m 3 (m 2 (m 1 (m 0 (below_none P) (omega (arith, shifted n 0))) (omega (arith, shifted n 1))) (omega (arith, shifted n 2))) (omega (arith, shifted n 3)))
+    m 7 (m 6 (m 5 (m 4 (m 3 (m 2 (m 1 (m 0 (below_none P) (omega (arith, shifted n 0))) (omega (arith, shifted n 1)))
+    (omega (arith, shifted n 2))) (omega (arith, shifted n 3)))
     (omega (arith, shifted n 4))) (omega (arith, shifted n 5))) (omega (arith, shifted n 6))) (omega (arith, shifted n 7)) e below

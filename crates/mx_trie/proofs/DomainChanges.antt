@@ -22,7 +22,14 @@ use Rattle.mx_trie.proofs.RangeLaws.{with_range-below, with_range-in, with_range
 pub laid-already : (lay : Laying) (m : List Perm) → lay.end ≤ length m →
     ((i : ℕ) → lay.first ≤ i → i < lay.end → perm_at m i ≡ lay.perm) → laid_by lay m ≡ m
 laid-already lay m inside has = ext_get_or P.None (laid_by lay m) m (length-with_range lay.first lay.end lay.perm m) (λ i below.
-    grind (arith, with_range-below lay.first lay.end lay.perm m i, with_range-in lay.first lay.end lay.perm m i inside, with_range-behind lay.first lay.end lay.perm m i, has i))
+    grind (
+      arith,
+      with_range-below lay.first lay.end lay.perm m i,
+      with_range-in lay.first lay.end lay.perm m i inside,
+      with_range-behind
+          lay.first lay.end lay.perm m i,
+      has i,
+    ))
 
 module _ (kind : Kind) (k : IsTrieKind kind) (upper leaf spill : Frames) (lay : Laying) (root : ℕ)
     (read : IsRead kind lay.words upper leaf spill root) where
@@ -38,5 +45,6 @@ module _ (kind : Kind) (k : IsTrieKind kind) (upper leaf spill : Frames) (lay : 
       IsDomainChanged kind upper leaf spill upper' leaf' spill' (λ m. IsBeside kind m lay beside) lay root →
       IsDomainChanged kind upper leaf spill upper' leaf' spill' (λ m. length m ≡ lay.words) lay root
   domain-known beside upper' leaf' spill' known told =
-      let is = λ (m : List Perm) (long : length m ≡ lay.words) (d : IsDomain kind upper leaf spill m root). rw (read_map-is kind k upper leaf spill m (omega arith) root lay.words d long) at known in
+      let is = λ (m : List Perm) (long : length m ≡ lay.words) (d : IsDomain kind upper leaf spill m root).
+      rw (read_map-is kind k upper leaf spill m (omega arith) root lay.words d long) at known in
       search (arith, told.shown, is)

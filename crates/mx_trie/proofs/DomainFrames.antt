@@ -46,7 +46,11 @@ module _ (kind : Kind) (upper leaf spill upper' leaf' spill' : Frames) (root : �
 
   pub domain_leaves-same : domain_leaves upper root ≡ domain_leaves upper' root
   domain_leaves-same =
-      sum_below_agree _ _ _ (λ x below. cc (root-word x, region_leaves-same kind upper leaf spill upper' leaf' spill' _ (regions-stay x below)))
+      sum_below_agree _ _ _ (λ x below. cc (
+        root-word x,
+        region_leaves-same kind upper leaf spill upper' leaf' spill' _
+            (regions-stay x below),
+      ))
 
   pub domain_spills-same : domain_spills kind upper leaf root ≡ domain_spills kind upper' leaf' root
   domain_spills-same =

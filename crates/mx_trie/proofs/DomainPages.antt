@@ -28,10 +28,11 @@ module _ (kind : Kind) (upper leaf spill : Frames) (root y : ℕ) (below : y < m
 
     -- a page has a leaf table just where it is broken
     pub leaf-broken : has_leaf upper root y ≡ is_broken page_words m y
-    leaf-broken = elim (has_mid upper root (y / 1024)) as (λ b. has_mid upper root (y / 1024) ≡ b → (b && is_pointer (mid_word upper root y)) ≡ is_broken page_words m y) [
-      | true ↦ λ e. (page e).broken
-      | false ↦ λ e. sym (even-page m (y / 1024) y refl (sym (shown (y / 1024) (omega arith)).broken ∙ e))
-    ] refl
+    leaf-broken = elim (has_mid upper root (y / 1024)) as (λ b. has_mid upper root (y / 1024) ≡ b
+        → (b && is_pointer (mid_word upper root y)) ≡ is_broken page_words m y) [
+          | true ↦ λ e. (page e).broken
+          | false ↦ λ e. sym (even-page m (y / 1024) y refl (sym (shown (y / 1024) (omega arith)).broken ∙ e))
+        ] refl
 
     pub leaf-lines : (e f : ℕ) → e ≡ root_word upper root (y / 1024) → f ≡ word_at upper (e / 4) (y % 1024) →
         has_leaf upper root y ≡ true → AreLines kind leaf spill m y (f / 4)

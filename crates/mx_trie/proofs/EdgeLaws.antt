@@ -24,7 +24,13 @@ use Rattle.std.proofs.lemmas.List.{get_or-replicate, length-replicate}
 pub even-page : (m : List Perm) (x y : ℕ) → y / 1024 ≡ x → is_broken region_words m x ≡ false →
     is_broken page_words m y ≡ false
 even-page m x y at whole =
-    search (arith, even_is 1024 128 m y refl refl (omega arith), region-page-even m x y at, even-of 1048576 131072 m x refl refl (omega arith) whole)
+    search (
+      arith,
+      even_is 1024 128 m y refl refl (omega arith),
+      region-page-even m x y at,
+      even-of 1048576 131072 m x refl refl
+          (omega arith) whole,
+    )
 
 pub broken_region : (m : List Perm) (x at : ℕ) → at / 1048576 ≡ x → is_broken page_words m (at / 1024) ≡ true →
     true ≡ is_broken region_words m x
@@ -35,7 +41,8 @@ broken_region m x at inside broken =
 pub edge_page : (m : List Perm) (at : ℕ) (before here : Span) → at % 128 ≢ 0 → IsRound m (at - 1) before →
     IsRound m at here →
     here.perm ≢ before.perm → is_broken page_words m (at / 1024) ≡ true
-edge_page m at before here within last first other = true_from_ne_false _ (λ e. let part = (even-of 1024 128 m (at / 1024) refl refl (omega arith) e).parts (at % 1024 / 128) (omega arith) in
+edge_page m at before here within last first other = true_from_ne_false _ (λ e. let part =
+    (even-of 1024 128 m (at / 1024) refl refl (omega arith) e).parts (at % 1024 / 128) (omega arith) in
     grind (arith, part.alike (at % 128), part.alike (at % 128 - 1), round-perm m at here first, round-perm m (at - 1) before last))
 
 -- blocks of which all words lie in a range that has one permission

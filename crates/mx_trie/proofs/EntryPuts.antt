@@ -33,7 +33,8 @@ pub record IsLevel (word : Frames → ℕ → ℕ) (Owns : Frames → Frames →
   pub law : (u l s u' l' s' : Frames) (e : ℕ) → IsKept Owns u l s u' l' s' e → (a g : ℕ) → Owns u' l' e a g → Owns u l e a g
 
 -- what entry k owns is moved, and then its new entry is written
-pub record IsEntryPut (word : Frames → ℕ → ℕ) (Owns : Frames → Frames → ℕ → ℕ → ℕ → Type 0) (frame n k e' : ℕ) (upper leaf spill upper' leaf' spill' upper'' : Frames) : Type 0 where
+pub record IsEntryPut (word : Frames → ℕ → ℕ) (Owns : Frames → Frames → ℕ → ℕ → ℕ
+    → Type 0) (frame n k e' : ℕ) (upper leaf spill upper' leaf' spill' upper'' : Frames) : Type 0 where
   pub within : k < n
   pub node : IsNode (heap upper leaf spill) 0 frame n (λ i. Owns upper leaf (word upper i))
   pub move : IsMove (heap upper leaf spill) (heap upper' leaf' spill') (Owns upper leaf (word upper k)) (Owns upper' leaf' e')
@@ -70,7 +71,21 @@ module _ {word : Frames → ℕ → ℕ} {Owns : Frames → Frames → ℕ → �
       λ i a g b ne own. search (arith, level.law, others-kept, words) in
       let as-new : (a g : ℕ) → Owns upper'' leaf' (word upper'' k) a g → Owns upper' leaf' e' a g =
       λ a g own. level.law _ _ _ _ _ _ _ here-kept a g (rw put.written.here at own) in
-      search (arith, node-put, node-move, put.within, put.node, same, wrote, put.move.stays, put.move.none, as-new, taken-on, here-kept, put.taken)
+      search (
+        arith,
+        node-put,
+        node-move,
+        put.within,
+        put.node,
+        same,
+        wrote,
+        put.move.stays,
+        put.move.none,
+        as-new,
+        taken-on,
+        here-kept,
+        put.taken,
+      )
 
   -- what is so of another part, and of the changed one, is so afterwards
   pub holds-other : (Holds : Frames → Frames → Frames → ℕ → Type 0) → IsFrameLaw Owns Holds → (i : ℕ) → i < n →
@@ -94,7 +109,16 @@ module _ {word : Frames → ℕ → ℕ} {Owns : Frames → Frames → ℕ → �
       free' + f upper' leaf' e' ≡ free + f upper leaf (word upper k) →
       free' + sum_below n (λ i. f upper'' leaf' (word upper'' i)) ≡ free + sum_below n (λ i. f upper leaf (word upper i))
   entry-sum f a b b' c =
-      search (arith, sum_below_changed n k (λ i. f upper leaf (word upper i)) (λ i. f upper'' leaf' (word upper'' i)) put.within, words, a, others-kept, put.written.here, here-kept)
+      search (
+        arith,
+        sum_below_changed n k (λ i. f upper leaf (word upper i)) (λ i. f upper'' leaf' (word upper'' i))
+            put.within,
+        words,
+        a,
+        others-kept,
+        put.written.here,
+        here-kept,
+      )
 
   pub entry-count : (test : ℕ → Bool) → (free free' : ℕ) → free' + bit (test e') ≡ free + bit (test (word upper k)) →
       free' + count_below n (λ i. test (word upper'' i)) ≡ free + count_below n (λ i. test (word upper i))

@@ -1,5 +1,6 @@
 -- Whether the words of a line, and of an eighth of a page, have one permission, told by leaf entries.
-use Rattle.std.proofs.Common.{◌≡◌, ℕ, ◌+◌, ◌-◌, ◌*◌, ◌/◌, ◌%◌, ◌<◌, ◌≤◌, true, false, List, length, Option, Some, None, is_some, ap, ◌∙◌, arith}
+use Rattle.std.proofs.Common.{◌≡◌, ℕ, ◌+◌, ◌-◌, ◌*◌, ◌/◌, ◌%◌, ◌<◌, ◌≤◌, true, false, List, length, Option, Some, None, is_some, ap, ◌∙◌}
+use Rattle.std.proofs.Common.{arith}
 use Rattle.std.proofs.lemmas.List.{get_or-replicate}
 use Rattle.mx_words.specs.declared.perm.Perm.{Perm}
 use Rattle.mx_words.specs.declared.perm.Span.{Span}
@@ -45,7 +46,8 @@ module _ (kind : Kind) (k : IsTrieKind kind) (spill : Frames) (m : List Perm) (z
       run ≡ entry_run kind perms l r (z * 16) (z * 16)) where
     cut-of : IsCut (line_at m (z * 16)) (z * 16) (z * 16) run
     cut-of =
-        (let stored = stored-plain kind k spill m z e few below line none in entry-cut kind _ _ _ _ (z * 16) e 0 (z * 16) run stored (omega arith) (omega arith) (made _ _ _ _ stored))
+        (let stored = stored-plain kind k spill m z e few below line none in
+        entry-cut kind _ _ _ _ (z * 16) e 0 (z * 16) run stored (omega arith) (omega arith) (made _ _ _ _ stored))
 
     -- the first run of an entry without spill word stays below 2^24
     pub run-whole : run.first + run.count ≤ most_words
@@ -86,4 +88,5 @@ module _ (m : List Perm) (y part : ℕ) (below : part < 8) where
   pub eighth-all : (p : Perm) → ((j : ℕ) → j < 8 → (i : ℕ) → i < 16 →
       perm_at m ((y * 64 + 8 * part + j) * 16 + i) ≡ p) → IsPermOf m (y * 1024 + part * 128) 128 (Some p)
   eighth-all p alike =
-      perm-some m (y * 1024 + part * 128) 128 p (λ k inside. ap (perm_at m) (omega arith) ∙ alike (k / 16) (omega arith) (k % 16) (omega arith))
+      perm-some m (y * 1024 + part * 128) 128 p (λ k inside. ap (perm_at m) (omega arith)
+      ∙ alike (k / 16) (omega arith) (k % 16) (omega arith))

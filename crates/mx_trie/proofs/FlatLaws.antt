@@ -52,7 +52,8 @@ pub vector-part : (size part : ℕ) (m : List Perm) (b e k entry : ℕ) → size
     IsEven m (b * size) part → entry ≡ vector size m (b * size) →
     digit (entry / 4) e ≡ number (perm_at m (b * size + e * part + k))
 vector-part size part m b e k entry is at below inside even entry_is =
-    vector-digit size part m _ e k entry is (record { even = rw at even; entry_is = rw at entry_is }) below inside (omega (arith, ap (λ n. n * size) at, mul_comm e part))
+    vector-digit size part m _ e k entry is (record { even = rw at even; entry_is = rw at entry_is }) below inside
+    (omega (arith, ap (λ n. n * size) at, mul_comm e part))
 
 -- the permission of an eighth by the vector
 pub page-part : (m : List Perm) (y part entry : ℕ) → part < 8 → IsEven m (y * page_words) 128 →
@@ -83,11 +84,18 @@ packed-flat p n is = omega arith
 pub region-page-even : (m : List Perm) (x y : ℕ) → y / 1024 ≡ x → IsEven m (x * region_words) 131072 →
     IsEven m (y * page_words) 128
 region-page-even m x y at even =
-    uniform-even m (y * 1024) 128 (record { alike = λ k below. cc (region-page-word m x y (y * 1024 + k) at even (omega arith), region-page-word m x y (y * 1024) at even (omega arith)) })
+    uniform-even m (y * 1024) 128 (record {
+      alike = λ k below.
+          cc (region-page-word m x y (y * 1024 + k) at even (omega arith), region-page-word m x y (y * 1024) at even (omega arith));
+    })
 
 pub region-page-vector : (m : List Perm) (x y entry : ℕ) → y / 1024 ≡ x → IsEven m (x * region_words) 131072 →
     entry ≡ vector region_words m (x * region_words) →
     flat_vector (digit (entry / 4) (y % 1024 / 128)) ≡ vector page_words m (y * page_words)
 region-page-vector m x y entry at even entry_is =
     let d = vector-part 1048576 131072 m x (y % 1024 / 128) 0 entry refl (omega arith) (omega arith) (omega arith) even entry_is in
-    cc (packed-flat _ (digit (entry / 4) (y % 1024 / 128)) d, eighths-alike 1024 m (y * 1024) _ (λ e below. region-page-word m x y (y * 1024 + 128 * e) at even (omega arith)))
+    cc (
+      packed-flat _ (digit (entry / 4) (y % 1024 / 128)) d,
+      eighths-alike 1024 m (y * 1024) _ (λ e below.
+          region-page-word m x y (y * 1024 + 128 * e) at even (omega arith)),
+    )

@@ -1,5 +1,6 @@
 -- The span and the item that a walk's end gives are those of the map.
-use Rattle.std.proofs.Common.{◌≡◌, ℕ, ◌+◌, ◌-◌, ◌*◌, ◌/◌, ◌<◌, ◌≤◌, inl, inr, ◌==◌, true, false, min, List, length, if◌then◌else◌, refl, arith}
+use Rattle.std.proofs.Common.{◌≡◌, ℕ, ◌+◌, ◌-◌, ◌*◌, ◌/◌, ◌<◌, ◌≤◌, inl, inr, ◌==◌, true, false, min, List, length, if◌then◌else◌, refl}
+use Rattle.std.proofs.Common.{arith}
 use Rattle.std.proofs.Math.Nat.{mul_comm}
 use Rattle.std.proofs.lemmas.List.FromFn.{get_or-map-range_with_len}
 use Rattle.mx_words.specs.declared.perm.Perm.{Perm}
@@ -37,7 +38,11 @@ module _ (m : List Perm) (b k i : ℕ) (below : k < line_words) (at : b * line_w
     line-run : Run (line_at m (b * line_words)) 0 line_words k
     line-run = run_of (line_at m (b * line_words)) 0 line_words k (omega arith) below (omega (arith, length-line m b))
 
-    line_run-parts : line_run (line_at m (b * line_words)) k ≡ record { first = line-run.first; count = line-run.last - line-run.first; perm = perm_at (line_at m (b * line_words)) k }
+    line_run-parts : line_run (line_at m (b * line_words)) k ≡ record {
+      first = line-run.first;
+      count = line-run.last - line-run.first;
+      perm = perm_at (line_at m (b * line_words)) k;
+    }
     line_run-parts =
         span_within-is (line_at m (b * line_words)) 0 line_words k line-run.first line-run.last line-run.run
 
@@ -53,17 +58,27 @@ module _ (line f l size lr rr : ℕ) (some : f < l) (short : l ≤ 16) (inside :
     (right_in : rr ≤ size - (line + 16)) where
   count-parts : min ((if f == 0 then lr else 0) + (l - f) + (if f + (l - f) == 16 then rr else 0))
       (size - (line + f - (if f == 0 then lr else 0)))
-      ≡ (if f == 0 then lr else 0) + (min (line + l) size - (line + f)) + (if line + f + (min (line + l) size - (line + f)) == line + 16 then rr else 0)
+      ≡ (if f == 0 then lr else 0) + (min (line + l) size - (line + f))
+      + (if line + f + (min (line + l) size - (line + f)) == line + 16 then rr else 0)
   count-parts = grind arith
 
 reached-cut : (m : List Perm) (b k : ℕ) → k < line_words → b * line_words + k < length m →
     let l : ℕ = b * line_words in let s : Span = line_run (line_at m l) k in
     cut_at (length m)
-    (lengthened (left_of_run false s (left_reach m l)) (right_of_run false s (right_reach m l)) (placed l s)) ≡ reached m l (span_within m l (l + line_words) (l + k))
+    (lengthened (left_of_run false s (left_reach m l)) (right_of_run false s (right_reach m l)) (placed l s))
+    ≡ reached m l (span_within m l (l + line_words) (l + k))
 reached-cut m b k below inside =
     let l : ℕ = b * line_words in let r : Run (line_at m l) 0 line_words k = line-run m b k (l + k) below refl inside in
-    let c = count-parts l r.first r.last (length m) (left_reach m l) (right_reach m l) (omega (arith, r.run)) r.run.up_to (omega (arith, r.run)) (left_reach-most m l) (right_reach-most m l) in
-    cc (line_run-parts m b k (l + k) below refl inside, c, line-at m b k below, shift-first l r.first, line_span-is m b k r.first r.last inside r.run)
+    let c = count-parts l r.first r.last (length m) (left_reach m l) (right_reach m l) (omega (arith, r.run)) r.run.up_to
+    (omega (arith, r.run)) (left_reach-most m l) (right_reach-most m l) in
+    cc (
+      line_run-parts m b k (l + k) below refl inside,
+      c,
+      line-at m b k below,
+      shift-first l r.first,
+      line_span-is m b k r.first r.last
+          inside r.run,
+    )
 
 -- the span of a leaf entry
 module _ (m : List Perm) (i entry spilled : ℕ) (inside : i < length m) where
@@ -74,9 +89,28 @@ module _ (m : List Perm) (i entry spilled : ℕ) (inside : i < length m) where
   found-leaf kind (inl e) at leaf =
       let s : Span = line_run (line_at m (i / 16 * 16)) (i - i / 16 * 16) in
       let p = plain-cut m (i / 16) (i - i / 16 * 16) i (omega arith) (omega arith) inside in
-      cc (e, at, rw e at leaf.left_is, rw e at leaf.right_is, p, left_of_run-none false s, right_of_run-none false s, lengthened-none (placed (i / 16 * 16) s))
+      cc (
+        e,
+        at,
+        rw e at leaf.left_is,
+        rw e at leaf.right_is,
+        p,
+        left_of_run-none false s,
+        right_of_run-none false s,
+        lengthened-none
+            (placed (i / 16 * 16) s),
+      )
   found-leaf kind (inr e) at leaf = let at_i : i / 16 * 16 + (i - i / 16 * 16) ≡ i = omega arith in
-      search (arith, e, at, rw e at leaf.left_is, rw e at leaf.right_is, leaf.crowded_is, rw at_i at (reached-cut m (i / 16) (i - i / 16 * 16) (omega arith) (omega arith)))
+      search (
+        arith,
+        e,
+        at,
+        rw e at leaf.left_is,
+        rw e at leaf.right_is,
+        leaf.crowded_is,
+        rw at_i at
+            (reached-cut m (i / 16) (i - i / 16 * 16) (omega arith) (omega arith)),
+      )
 
   pub found-spill : (kind : Kind) → IsTrieKind kind → level kind m i ≡ L.Spill →
       (leaf : IsLeaf kind true m i entry spilled) →

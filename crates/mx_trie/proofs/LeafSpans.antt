@@ -1,7 +1,9 @@
 -- The span of a word inside its line, by the run in the whole line, cut at RAM's end.
-use Rattle.std.proofs.Common.{◌≡◌, ℕ, ◌+◌, ◌-◌, ◌*◌, ◌/◌, ◌<◌, ◌≤◌, min, List, ◌++◌, length, replicate, arith, length-take, length-drop, length-append}
+use Rattle.std.proofs.Common.{◌≡◌, ℕ, ◌+◌, ◌-◌, ◌*◌, ◌/◌, ◌<◌, ◌≤◌, min, List, ◌++◌, length, replicate, arith, length-take, length-drop}
+use Rattle.std.proofs.Common.{length-append}
 use Rattle.std.specs.List.{slice_range}
-use Rattle.std.proofs.lemmas.List.{get_or-take, get_or-drop, get_or_past, get_or-replicate, get_or_append_left, get_or-append_right, ext_get_or, length-replicate}
+use Rattle.std.proofs.lemmas.List.{get_or-take, get_or-drop, get_or_past, get_or-replicate, get_or_append_left, get_or-append_right}
+use Rattle.std.proofs.lemmas.List.{ext_get_or, length-replicate}
 use Rattle.mx_words.specs.declared.perm.Perm.{Perm}
 use Rattle.mx_words.specs.declared.perm.Perm.TheVariants as P
 use Rattle.mx_words.specs.Rights.{perm_at}
@@ -54,6 +56,11 @@ range-cut m i high inside = search (arith, ext_get_or P.None, length-take, lengt
 pub line_span-is : (m : List Perm) (b k f l : ℕ) → b * line_words + k < length m →
     IsRunIn (line_at m (b * line_words)) 0 line_words k f l →
     span_within m (b * line_words) (b * line_words + line_words) (b * line_words + k)
-    ≡ record { first = b * line_words + f; count = min (b * line_words + l) (length m) - (b * line_words + f); perm = perm_at m (b * line_words + k) }
+    ≡ record {
+      first = b * line_words + f;
+      count = min (b * line_words + l) (length m) - (b * line_words + f);
+      perm =
+          perm_at m (b * line_words + k);
+    }
 line_span-is m b k f l inside r =
     search (arith, range-cut, span_within-is, cut-run m (line_at m (b * 16)) (b * 16) k f l (line-at m b) inside r)

@@ -31,5 +31,13 @@ pub line-beside : (kind : Kind) → IsTrieKind kind →
 line-beside kind k spill lay b z e e' perms left right none some told is same left_is right_is =
     let needs : false ≡ needs_spill kind perms =
     cc (told some.map some.few some.line, named-none _ (line_number kind e) (sym none ∙ line-named kind k spill some.map z e some.line)) in
-    let are = λ (m : List Perm) (known : IsBeside kind m lay b) (line : IsLine kind spill m z e). same m known ∙ sym (told m (few-known kind m lay b known) line) in
-    line-changed kind k spill spill lay b z e e' (record { made = search (arith, put-none, perms, left, right, is); perms_are = are; room = λ h. absurd (cc); left_is = left_is; right_is = right_is })
+    let are = λ (m : List Perm) (known : IsBeside kind m lay b) (line : IsLine kind spill m z e). same m known
+    ∙ sym (told m (few-known kind m lay b known) line) in
+    line-changed kind k spill spill lay b z e e' (record {
+      made = search (arith, put-none, perms, left, right, is);
+      perms_are = are;
+      room =
+          λ h. absurd (cc);
+      left_is = left_is;
+      right_is = right_is;
+    })

@@ -73,7 +73,17 @@ module _ (kind : Kind) (k : IsTrieKind kind) (spill spill' : Frames) (lay : Layi
     (line : IsLineMade kind spill spill' lay beside z e e') where
   pub line-changed : IsLineChanged kind spill spill' lay beside z e e'
   line-changed =
-      search (arith, entry-stays, entry-fresh, entry-taken, entry-shown, bit-le, line.room, ap bit (entry-some kind k spill spill' (spill_number kind e) e' line.made))
+      search (
+        arith,
+        entry-stays,
+        entry-fresh,
+        entry-taken,
+        entry-shown,
+        bit-le,
+        line.room,
+        ap bit
+            (entry-some kind k spill spill' (spill_number kind e) e' line.made),
+      )
 
 -- nothing is put where a line has no spill word and needs none
 pub put-none : (spill : Frames) (o : Option ℕ) → o ≡ None → IsSpillPut spill spill o false 0 0

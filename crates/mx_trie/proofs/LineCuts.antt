@@ -43,7 +43,18 @@ module _ (kind : Kind) (m : List Perm) (lay : Laying) (b : Beside) (known : IsBe
         from ≡ max lay.first (z * 16) - z * 16 → to ≡ min lay.end (z * 16 + 16) - z * 16 →
         IsLaidOver old new from to lay.perm → line_at (laid_by lay m) (z * 16) ≡ new
     cut-perms old new from to was from_is to_is over = line-is (laid_by lay m) z new over.whole (λ k inside.
-        grind (arith, cases_lt k from, cases_lt k to, over.before, over.inside, over.behind, line-at, with_range-below, with_range-in, with_range-behind))
+        grind (
+          arith,
+          cases_lt k from,
+          cases_lt k to,
+          over.before,
+          over.inside,
+          over.behind,
+          line-at,
+          with_range-below,
+          with_range-in,
+          with_range-behind,
+        ))
 
     pub cut-left-kept : z * 16 < lay.first → map_left kind (laid_by lay m) z ≡ min b.left (form_reach kind)
     cut-left-kept lt =

@@ -29,7 +29,16 @@ module _ (kind : Kind) (k : IsTrieKind kind) (spill : Frames) (m : List Perm) (z
         run ≡ entry_run kind perms l r (z * 16) (z * 16 + 16 - 1)) →
         run.first + run.count ≡ z * 16 + 16 + map_right kind m z
     last-run made =
-        grind (arith, made _ _ _ _ stored-plain, none, line-named kind k spill m z e line, stored-plain, within_high (line_at m (z * 16)) 0 16, within_round (line_at m (z * 16)) 0 16)
+        grind (
+          arith,
+          made _ _ _ _ stored-plain,
+          none,
+          line-named kind k spill m z e line,
+          stored-plain,
+          within_high (line_at m (z * 16)) 0
+              16,
+          within_round (line_at m (z * 16)) 0 16,
+        )
 
 -- an entry without spill word is one that the form's calls take
 pub entry-plain : (kind : Kind) → IsTrieKind kind → (spill : Frames) (z e : ℕ) → z < most_lines →

@@ -23,16 +23,35 @@ module _ (kind : Kind) (k : IsTrieKind kind) (upper leaf spill : Frames) (m : Li
     module _ (i : ℕ) (below : i < most_words) where
       pub line-read : (e : ℕ) → IsLine kind spill m (i / 16) e → leaf_perm kind spill e i ≡ perm_at m i
       line-read e line = let at : i / 16 * 16 + i % 16 ≡ i = omega arith in
-          cc (read_line-is kind k _ _ _ _ (i / 16 * 16) e _ (line-stored kind k spill m (i / 16) e few (omega arith) line), line-at m (i / 16) (i % 16) (omega arith), at)
+          cc (
+            read_line-is kind k _ _ _ _ (i / 16 * 16) e _ (line-stored kind k spill m (i / 16) e few (omega arith) line),
+            line-at m
+                (i / 16) (i % 16) (omega arith),
+            at,
+          )
 
       page-read : (e : ℕ) → IsPage kind leaf spill m (i / 1024) e → mid_perm kind leaf spill e i ≡ perm_at m i
       page-read e page =
-          search (arith, line-read, walk-line kind upper leaf spill m i below e, page-word kind upper leaf spill m (i / 1024) e, from_number-number)
+          search (
+            arith,
+            line-read,
+            walk-line kind upper leaf spill m i below e,
+            page-word kind upper leaf spill m (i / 1024)
+                e,
+            from_number-number,
+          )
 
       region-read : (e : ℕ) → IsRegion kind upper leaf spill m (i / 1048576) e →
           root_perm kind upper leaf spill e i ≡ perm_at m i
       region-read e region =
-          search (arith, page-read, walk-page kind upper leaf spill m i below e, region-word kind upper leaf spill m (i / 1048576) e, from_number-number)
+          search (
+            arith,
+            page-read,
+            walk-page kind upper leaf spill m i below e,
+            region-word kind upper leaf spill m (i / 1048576)
+                e,
+            from_number-number,
+          )
 
     module _ (root words : ℕ) (shown : IsDomain kind upper leaf spill m root) (long : length m ≡ words) where
       pub read_map-is : read_map kind upper leaf spill words root ≡ m

@@ -29,7 +29,8 @@ spill_lines-plain kind m e = rw e (search (arith, count_below_none))
 spill_lines-packed : (kind : Kind) (m : List Perm) → kind ≡ K.Packed → length m ≤ most_words →
     spill_lines kind m ≡ crowded_lines m
 spill_lines-packed kind m e few =
-    (let at : (z : ℕ) → z * 16 / 16 ≡ z = λ z. omega arith in rw e (search (arith, count_below_agree, crowded_lines-count m most_lines, at)))
+    (let at : (z : ℕ) → z * 16 / 16 ≡ z = λ z. omega arith in
+    rw e (search (arith, count_below_agree, crowded_lines-count m most_lines, at)))
 
 -- a sum over a list, by index
 sum-listed : {A : Type 0} (f : A → ℕ) (n : ℕ) (g : ℕ → A) (xs : List A) (x : A) → length xs ≡ n →
@@ -60,8 +61,10 @@ need-listed kind k n maps list long at short =
     let leaf = sum-listed (broken_blocks page_words) n maps list [] long at in
     let lines = sum-listed crowded_lines n maps list [] long at in
     let each = sum_below-each n 1 (λ d. broken_blocks region_words (maps d)) in elim k [
-      | inl e ↦ (let none : sum_below n (λ d. spill_lines K.Multilevel (maps d)) ≡ 0 = search (arith, sum_below-none, spill_lines-plain K.Multilevel) in rw e (search arith))
-      | inr e ↦ (let some : sum_below n (λ d. crowded_lines (maps d)) ≡ sum_below n (λ d. spill_lines K.Packed (maps d)) = search (arith, sum_below_agree, spill_lines-packed) in rw e (search arith))
+      | inl e ↦ (let none : sum_below n (λ d. spill_lines K.Multilevel (maps d)) ≡ 0 =
+          search (arith, sum_below-none, spill_lines-plain K.Multilevel) in rw e (search arith))
+      | inr e ↦ (let some : sum_below n (λ d. crowded_lines (maps d)) ≡ sum_below n (λ d. spill_lines K.Packed (maps d)) =
+          search (arith, sum_below_agree, spill_lines-packed) in rw e (search arith))
     ]
 
 pub need-same : (kind : Kind) (n : ℕ) (maps : ℕ → List Perm) (a b : Need) → IsNeedOf kind n maps a →

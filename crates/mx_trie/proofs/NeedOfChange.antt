@@ -58,21 +58,43 @@ module _ (kind : Kind) (n : ℕ) where
       IsNeedOf kind n (maps_until row change old) need →
       IsNeedMoved kind (old row) (maps_after change old row) need need' →
       IsNeedOf kind n (maps_until (row + 1) change old) need'
-  need-next change old row need need' below is moved = omega (arith, changed (broken_blocks region_words), changed (broken_blocks page_words), changed (spill_lines kind))
+  need-next change old row need need' below is moved = omega (
+    arith,
+    changed (broken_blocks region_words),
+    changed
+        (broken_blocks page_words),
+    changed (spill_lines kind),
+  )
     where
-      changed : (f : List Perm → ℕ) → sum_below n (λ d. f (maps_until (row + 1) change old d)) + f (old row) ≡ sum_below n (λ d. f (maps_until row change old d)) + f (maps_after change old row)
-      changed f = search (arith, sum_below_changed n row (λ d. f (maps_until row change old d)) (λ d. f (maps_until (row + 1) change old d)) below, until-old, until-new, until-next)
+      changed : (f : List Perm → ℕ) → sum_below n (λ d. f (maps_until (row + 1) change old d)) + f (old row)
+          ≡ sum_below n (λ d. f (maps_until row change old d)) + f (maps_after change old row)
+      changed f = search (
+        arith,
+        sum_below_changed n row (λ d. f (maps_until row change old d)) (λ d. f (maps_until (row + 1) change old d))
+            below,
+        until-old,
+        until-new,
+        until-next,
+      )
 
   -- each map's need is a part, and the whole is small
   pub need-part : (maps : ℕ → List Perm) (d : ℕ) (need : Need) → d < n → IsNeedOf kind n maps need →
       IsNeedWith kind (maps d) need
   need-part maps d need below is =
-      search (arith, sum-part n d (λ e. broken_blocks region_words (maps e)) below, sum-part n d (λ e. broken_blocks page_words (maps e)) below, sum-part n d (λ e. spill_lines kind (maps e)) below)
+      search (
+        arith,
+        sum-part n d (λ e. broken_blocks region_words (maps e)) below,
+        sum-part n d (λ e. broken_blocks page_words (maps e))
+            below,
+        sum-part n d (λ e. spill_lines kind (maps e)) below,
+      )
 
   pub need-small : (maps : ℕ → List Perm) (need : Need) → n ≤ 63 → ((d : ℕ) → d < n → length (maps d) ≤ most_words) →
       IsNeedOf kind n maps need → IsNeedSmall need
   need-small maps need few short is =
-      let u = sum-most n 16 (λ d. broken_blocks region_words (maps d)) (λ d below. omega (arith, broken_blocks-count region_words (maps d) 16 (omega arith) (short d below), count_below-le 16)) in
-      let l = sum-most n 16384 (λ d. broken_blocks page_words (maps d)) (λ d below. omega (arith, broken_blocks-count page_words (maps d) 16384 (omega arith) (short d below), count_below-le 16384)) in
+      let u = sum-most n 16 (λ d. broken_blocks region_words (maps d)) (λ d below.
+      omega (arith, broken_blocks-count region_words (maps d) 16 (omega arith) (short d below), count_below-le 16)) in
+      let l = sum-most n 16384 (λ d. broken_blocks page_words (maps d)) (λ d below.
+      omega (arith, broken_blocks-count page_words (maps d) 16384 (omega arith) (short d below), count_below-le 16384)) in
       let s : sum_below n (λ d. spill_lines kind (maps d)) ≤ n * 1048576 = search (arith, sum-most, count_below-le) in
       search arith

@@ -40,7 +40,11 @@ module _ (m : List Perm) (lay : Laying) (long : length m ≡ lay.words) where
       broken_blocks size (laid_by lay m) + count_from (lay.first / size) ((lay.end - 1) / size + 1) (is_broken size m)
       ≡ broken_blocks size m + count_from (lay.first / size) ((lay.end - 1) / size + 1) (is_broken size (laid_by lay m))
   blocks-changed size n some within order inside =
-      rw (broken_blocks-count size m n some within, broken_blocks-count size (laid_by lay m) n some (omega (arith, length-with_range lay.first lay.end lay.perm m)))
+      rw (
+        broken_blocks-count size m n some within,
+        broken_blocks-count size (laid_by lay m) n some
+            (omega (arith, length-with_range lay.first lay.end lay.perm m)),
+      )
       (count_below_part n _ _ _ _ (omega arith) (search (arith, is_broken-same, outside, length-with_range)))
 
   lines-changed : (kind : Kind) → spill_lines kind (laid_by lay m) + count_from (lay.first / 16)
@@ -48,7 +52,8 @@ module _ (m : List Perm) (lay : Laying) (long : length m ≡ lay.words) where
       ≡ spill_lines kind m + count_from (lay.first / 16) ((lay.end - 1) / 16 + 1)
       (λ z. needs_spill kind (line_at (laid_by lay m) (z * 16)))
   lines-changed kind =
-      count_below_part most_lines _ _ _ _ (omega arith) (λ z below apart. ap (needs_spill kind) (search (arith, line-is, length-line, outside, line-at)))
+      count_below_part most_lines _ _ _ _ (omega arith) (λ z below apart.
+      ap (needs_spill kind) (search (arith, line-is, length-line, outside, line-at)))
 
 -- the tables that a domain has in a range are those that its map needs there
 pub range-taken : (kind : Kind) (upper leaf spill : Frames) (root : ℕ) (lay : Laying) (m : List Perm) (need : Need) →
@@ -58,7 +63,12 @@ pub range-taken : (kind : Kind) (upper leaf spill : Frames) (root : ℕ) (lay : 
     need.spill ≡ count_from (lay.first / 16) ((lay.end - 1) / 16 + 1) (λ z. needs_spill kind (line_at m (z * 16))) →
     IsRangeNeed kind lay m need
 range-taken kind upper leaf spill root lay m need shown regions pages lines =
-    record { upper = search (arith, count_below_agree, shown); leaf = pages ∙ count_below_agree _ _ _ (λ i below. leaf-broken kind upper leaf spill root _ (omega arith) m shown); spill = lines }
+    record {
+      upper = search (arith, count_below_agree, shown);
+      leaf = pages
+          ∙ count_below_agree _ _ _ (λ i below. leaf-broken kind upper leaf spill root _ (omega arith) m shown);
+      spill = lines;
+    }
 
 -- nothing changes where the range has the permission already
 pub range-already : (kind : Kind) (m n : List Perm) (lay : Laying) (need : Need) → n ≡ m →
@@ -77,4 +87,10 @@ range-moved kind upper leaf spill root lay o n before after read was is old new 
     let m = map_in kind upper leaf spill root lay in
     let long = length-read_map kind upper leaf spill lay.words [] root in
     let had = old spill m read.shown in let now = rw (is, was) at new in
-    omega (arith, blocks-changed m lay long region_words most_regions, blocks-changed m lay long page_words most_pages, lines-changed m lay long kind)
+    omega (
+      arith,
+      blocks-changed m lay long region_words most_regions,
+      blocks-changed m lay long page_words most_pages,
+      lines-changed m lay
+          long kind,
+    )

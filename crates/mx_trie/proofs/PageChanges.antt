@@ -32,8 +32,10 @@ module _ (kind : Kind) (leaf spill : Frames) (lay : Laying) (b : Beside) (y e : 
       e' ≡ flat_vector (number lay.perm) → IsPageFreed kind leaf spill leaf' spill' e →
       IsPageChanged kind leaf spill leaf' spill' lay b y e e'
   page-covered leaf' spill' from to e' is freed =
-      let whole = λ (m : List Perm) (known : IsBeside kind m lay b). cover-whole kind m lay b known 1024 128 y refl refl (omega arith) from to in
-      let alike = λ (m : List Perm) (known : IsBeside kind m lay b). cover-vector kind m lay b known 1024 128 y refl refl (omega arith) from to in
+      let whole = λ (m : List Perm) (known : IsBeside kind m lay b).
+      cover-whole kind m lay b known 1024 128 y refl refl (omega arith) from to in
+      let alike = λ (m : List Perm) (known : IsBeside kind m lay b).
+      cover-vector kind m lay b known 1024 128 y refl refl (omega arith) from to in
       search (arith, ap is_pointer is ∙ flat-closed (number lay.perm), closed-spills, whole, alike)
 
   -- the range has some words of the page: it is opened, its lines are changed, and it is closed
@@ -51,7 +53,12 @@ module _ (kind : Kind) (leaf spill : Frames) (lay : Laying) (b : Beside) (y e : 
   page-beside leaf' spill' apart pointer lines =
       let shown : (m : List Perm) → IsBeside kind m lay b → IsPage kind leaf spill m y e → IsPage kind leaf' spill' (laid_by lay m) y e =
       λ m known page.
-      record { broken = page.broken ∙ sym (apart-broken lay m 1024 y apart); vector_is = λ closed. absurd (cc); lines = λ h. lines.shown m known (page.lines pointer) } in
+      record {
+        broken = page.broken ∙ sym (apart-broken lay m 1024 y apart);
+        vector_is = λ closed. absurd (cc);
+        lines = λ h.
+            lines.shown m known (page.lines pointer);
+      } in
       search (arith, move-below, pointer, shown)
 
   pub page-stays : IsApart lay.first lay.end (y * 1024) (y * 1024 + 1024) → is_pointer e ≡ false →

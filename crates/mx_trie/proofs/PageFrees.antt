@@ -26,7 +26,8 @@ module _ (kind : Kind) (leaf spill leaf' spill' leaf'' spill'' : Frames) (frame 
     (line : IsLineFreed kind leaf' spill' leaf'' spill'' frame next) where
   pub lines-freed : AreLinesFreed kind leaf spill leaf'' spill'' frame (next + 1)
   lines-freed =
-      let spills = place-spills _ _ _ _ _ _ _ _ within way.table line.written line.move (λ g is. absurd cc) (search (arith, line.none, line.count)) in
+      let spills = place-spills _ _ _ _ _ _ _ _ within way.table line.written line.move (λ g is. absurd cc)
+      (search (arith, line.none, line.count)) in
       let none : (k : ℕ) → k < next + 1 → spill_number kind (word_at leaf'' frame k) ≡ None =
       search (arith, cases_below, line.written.others, way.none) in
       search (arith, place-put _ _ _ _ _ _ _ _ within way.table line.written line.move (λ g is. absurd cc), move-then, way.move)

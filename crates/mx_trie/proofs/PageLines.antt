@@ -1,5 +1,6 @@
 -- The lines of a page, changed one by one in its leaf table.
-use Rattle.std.proofs.Common.{◌≡◌, ◌≢◌, ℕ, ◌+◌, ◌-◌, ◌*◌, ◌/◌, ◌%◌, ◌<◌, ◌≤◌, ◌⊎◌, inl, inr, min, List, [], Option, Some, IsSome, is_some, unwrap_or, slice_index, refl, ap, arith}
+use Rattle.std.proofs.Common.{◌≡◌, ◌≢◌, ℕ, ◌+◌, ◌-◌, ◌*◌, ◌/◌, ◌%◌, ◌<◌, ◌≤◌, ◌⊎◌, inl, inr, min, List, [], Option, Some, IsSome, is_some}
+use Rattle.std.proofs.Common.{unwrap_or, slice_index, refl, ap, arith}
 use Rattle.mx_words.specs.declared.perm.Perm.{Perm}
 use Rattle.mx_words.specs.declared.tables.Kind.{Kind}
 use Rattle.mx_words.specs.Counting.{bit}
@@ -38,7 +39,8 @@ line-kept kind k spill spill' m z e kept line = search (arith, line-named kind k
 -- an entry is written at a place of a leaf table, and its spill word was changed before
 module _ (kind : Kind) (leaf spill leaf' spill' : Frames) (frame place e' : ℕ) (within : place < 64)
     (table : IsLeafTable kind leaf spill frame) (written : IsPlaceWritten leaf leaf' frame place e')
-    (move : IsMove (heap [] [] spill) (heap [] [] spill') (LineOwns kind (word_at leaf frame place)) (LineOwns kind e')) (taken : (g : ℕ) → spill_number kind e' ≡ Some g → IsTaken spill' g) where
+    (move : IsMove (heap [] [] spill) (heap [] [] spill') (LineOwns kind (word_at leaf frame place)) (LineOwns kind e')) (taken : (g : ℕ)
+    → spill_number kind e' ≡ Some g → IsTaken spill' g) where
   stays : (a g : ℕ) → IsSome (heap [] leaf spill a g) → (PlacesOwn kind leaf frame place a g → ⊥) →
       ((a ≡ 1) × (g ≡ frame) → ⊥) → heap [] leaf' spill' a g ≡ heap [] leaf spill a g
   stays x g there not other = grind (arith, written.elsewhere g, move.stays 2 g)
@@ -60,12 +62,15 @@ module _ (kind : Kind) (leaf spill leaf' spill' : Frames) (frame place e' : ℕ)
   pub place-other : IsTrieKind kind → (m : List Perm) (z i : ℕ) → i < 64 → i ≢ place →
       IsLine kind spill m z (word_at leaf frame i) → IsLine kind spill' m z (word_at leaf' frame i)
   place-other k m z i below ne line =
-      rw (written.others i ne) (line-kept _ k _ _ m z _ (λ g is. grind (arith, move.stays 2 g, table.parts.taken i 2 g, table.parts.apart i place 2 g)) line)
+      rw (written.others i ne) (line-kept _ k _ _ m z _ (λ g is.
+      grind (arith, move.stays 2 g, table.parts.taken i 2 g, table.parts.apart i place 2 g)) line)
 
-  pub place-spills : (free_in spill' + bit (is_some (spill_number kind e')) ≡ free_in spill + bit (is_some (spill_number kind (word_at leaf frame place)))) →
+  pub place-spills : (free_in spill' + bit (is_some (spill_number kind e')) ≡ free_in spill
+      + bit (is_some (spill_number kind (word_at leaf frame place)))) →
       free_in spill' + line_spills kind leaf' frame ≡ free_in spill + line_spills kind leaf frame
   place-spills count =
-      let changed = count_below_changed 64 place (λ i. is_some (spill_number kind (word_at leaf frame i))) (λ i. is_some (spill_number kind (word_at leaf' frame i))) within in
+      let changed = count_below_changed 64 place (λ i. is_some (spill_number kind (word_at leaf frame i))) (λ i.
+      is_some (spill_number kind (word_at leaf' frame i))) within in
       search (arith, changed, written.others, written.here)
 
 -- one more line is changed
@@ -81,19 +86,50 @@ module _ (kind : Kind) (k : IsTrieKind kind) (leaf spill leaf' spill' leaf'' spi
       let spills = place-spills _ _ _ _ _ _ _ _ within way.table written line.move line.taken line.count in
       let other = place-other _ _ _ _ _ _ _ _ within way.table written line.move line.taken k in
       let done = λ (m : _) (known : IsBeside kind m lay beside) (old : _) (i : ℕ) (b : i < 64) (lt : y * 64 + i < next + 1).
-      either (y * 64 + i) next (IsLine kind spill'' (laid_by lay m) (y * 64 + i) (word_at leaf'' frame i)) (λ h. other (laid_by lay m) _ i b (omega arith) (way.done m known old i b h))
-      (λ h. let p : i ≡ next % 64 = omega arith in let q : y * 64 + i ≡ next = omega arith in rw (q, p, written.here) (line.shown m known (rw p at (rw q at (way.ahead m known old i b h))))) in
-      let ahead = λ (m : List Perm) (known : _) (old : _) (i : ℕ) (b : i < 64) (le : next + 1 ≤ y * 64 + i). other m _ i b (omega arith) (way.ahead m known old i b (omega arith)) in
-      search (arith, place-put _ _ _ _ _ _ _ _ within way.table written line.move line.taken, move-then, way.move, done, ahead, room-more, way.spill_room, line.room)
+      either (y * 64 + i) next (IsLine kind spill'' (laid_by lay m) (y * 64 + i) (word_at leaf'' frame i)) (λ h.
+      other (laid_by lay m) _ i b (omega arith) (way.done m known old i b h))
+      (λ h. let p : i ≡ next % 64 = omega arith in let q : y * 64 + i ≡ next = omega arith in
+      rw (q, p, written.here) (line.shown m known (rw p at (rw q at (way.ahead m known old i b h))))) in
+      let ahead = λ (m : List Perm) (known : _) (old : _) (i : ℕ) (b : i < 64) (le : next + 1 ≤ y * 64 + i).
+      other m _ i b (omega arith) (way.ahead m known old i b (omega arith)) in
+      search (
+        arith,
+        place-put _ _ _ _ _ _ _ _ within way.table written line.move
+            line.taken,
+        move-then,
+        way.move,
+        done,
+        ahead,
+        room-more,
+        way.spill_room,
+        line.room,
+      )
 
 -- a line far from the range
 module _ (kind : Kind) (spill : Frames) (m : List Perm) (lay : Laying) (b : Beside) (known : IsBeside kind m lay b)
     (z e : ℕ) (below : z < most_lines) where
-  pub far-line : (z < (lay.first - form_reach kind) / 16) ⊎ (min (lay.end - 1 + form_reach kind) (most_words - 1) / 16 < z) → IsLine kind spill m z e → IsLine kind spill (laid_by lay m) z e
+  pub far-line : (z < (lay.first - form_reach kind) / 16) ⊎ (min (lay.end - 1 + form_reach kind) (most_words - 1) / 16 < z)
+      → IsLine kind spill m z e → IsLine kind spill (laid_by lay m) z e
   far-line (inl lt) line =
-      search (arith, apart-perms kind m lay b known z below, left-before kind m lay b known z, right-far kind m lay b known z, inl, line.spilled)
+      search (
+        arith,
+        apart-perms kind m lay b known z below,
+        left-before kind m lay b known z,
+        right-far kind m lay b known
+            z,
+        inl,
+        line.spilled,
+      )
   far-line (inr lt) line =
-      search (arith, apart-perms kind m lay b known z below, left-far kind m lay b known z, right-behind kind m lay b known z, inr, line.spilled)
+      search (
+        arith,
+        apart-perms kind m lay b known z below,
+        left-far kind m lay b known z,
+        right-behind kind m lay b known
+            z,
+        inr,
+        line.spilled,
+      )
 
 module _ (kind : Kind) (k : IsTrieKind kind) (leaf spill : Frames) (lay : Laying) (beside : Beside) (y frame : ℕ)
     (below : y < most_pages) where
@@ -104,7 +140,8 @@ module _ (kind : Kind) (k : IsTrieKind kind) (leaf spill : Frames) (lay : Laying
   lines-none next table from far =
       let start = cuts-start 16 next 1024 y lay (omega arith) in
       let done = λ (m : _) (known : IsBeside kind m lay beside)
-      (i : ℕ) (b : _) (lt : _). far-line kind spill m _ _ known (y * 64 + i) (word_at leaf frame i) (omega arith) (inl (far i b lt)) in search (arith, move-none, done, room-start)
+      (i : ℕ) (b : _) (lt : _). far-line kind spill m _ _ known (y * 64 + i) (word_at leaf frame i) (omega arith) (inl (far i b lt)) in
+      search (arith, move-none, done, room-start)
 
   module _ (leaf' spill' : Frames) (next : ℕ)
       (way : AreLinesOnWay kind leaf spill leaf' spill' lay beside y frame next) where
@@ -114,7 +151,8 @@ module _ (kind : Kind) (k : IsTrieKind kind) (leaf spill : Frames) (lay : Laying
         AreLinesChanged kind leaf spill leaf' spill' lay beside y frame
     lines-all far =
         let shown = λ (m : _) (known : IsBeside kind m lay beside) (old : _) (i : ℕ) (b : _). either (y * 64 + i) next _
-        (way.done m known old i b) (λ h. far-line _ _ m _ _ known (y * 64 + i) _ (omega arith) (inr (far i b h)) (way.ahead m known old i b h)) in search (arith, shown, room-end, way.spill_room)
+        (way.done m known old i b) (λ h. far-line _ _ m _ _ known (y * 64 + i) _ (omega arith) (inr (far i b h))
+        (way.ahead m known old i b h)) in search (arith, shown, room-end, way.spill_room)
 
     -- the next line's entry
     pub next-line : y * 64 ≤ next → next < y * 64 + 64 → (e : ℕ) → e ≡ word_at leaf' frame (next % 64) →

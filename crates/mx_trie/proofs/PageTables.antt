@@ -1,5 +1,6 @@
 -- The leaf table of a page, made and given back.
-use Rattle.std.proofs.Common.{◌≡◌, ◌≢◌, ℕ, ◌+◌, ◌*◌, ◌%◌, ◌<◌, ◌≤◌, Bool, true, false, List, [], length, if◌then◌else◌, Some, None, IsSome, refl, sym, ◌∙◌, arith, eq-eqb}
+use Rattle.std.proofs.Common.{◌≡◌, ◌≢◌, ℕ, ◌+◌, ◌*◌, ◌%◌, ◌<◌, ◌≤◌, Bool, true, false, List, [], length, if◌then◌else◌, Some, None, IsSome}
+use Rattle.std.proofs.Common.{refl, sym, ◌∙◌, arith, eq-eqb}
 use Rattle.std.proofs.lemmas.Bool.{ne_eqb}
 use Rattle.mx_words.specs.declared.perm.Perm.{Perm}
 use Rattle.mx_words.specs.declared.tables.Kind.{Kind}
@@ -87,6 +88,7 @@ page-closed kind k leaf spill leaf' y frame e closable whole elsewhere more tota
     ) in
     let told = λ (m : List Perm) (few : length m ≤ most_words) (lines : AreLines kind leaf spill m y frame).
     told-some (is_broken page_words m y) (vector page_words m (y * page_words)) e (whole m few lines) in
-    let stays : (a g : ℕ) → IsSome (heap [] leaf spill a g) → (LeafOwns kind leaf frame a g → ⊥) → heap [] leaf' spill a g ≡ heap [] leaf spill a g =
+    let stays : (a g : ℕ) → IsSome (heap [] leaf spill a g) → (LeafOwns kind leaf frame a g → ⊥)
+    → heap [] leaf' spill a g ≡ heap [] leaf spill a g =
     λ a g t n. grind arith in
     search (arith, vector-closed page_words s.map (y * page_words) e some.1, stays, none, told, plain-spills)

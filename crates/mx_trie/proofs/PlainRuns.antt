@@ -47,5 +47,16 @@ pub plain-run : (ps : List Perm) (left right spill line entry spilled word begin
 plain-run ps left right spill line entry spilled word begin last p st sc e =
     let l : left ≡ 0 = omega (arith, st.left_most) in let r : right ≡ 0 = omega (arith, st.right_most) in
     let t : IsScan (packed ps) (word - line) begin last = rw st.entry_is at sc in
-    let run = span_within-is ps 0 line_words (word - line) begin last (search (arith, st.whole, eq-eqb, ← digit-packed, differ, t.before, t.behind, t.edge_before, t.edge_behind, cases_lt)) in
-    search (arith, l, r, number-one_to_one p (perm_at ps (word - line)) (cc (e, st.entry_is, digit-packed ps (word - line))), run, left_of_run-none, right_of_run-none, lengthened-none)
+    let run = span_within-is ps 0 line_words (word - line) begin last
+    (search (arith, st.whole, eq-eqb, ← digit-packed, differ, t.before, t.behind, t.edge_before, t.edge_behind, cases_lt)) in
+    search (
+      arith,
+      l,
+      r,
+      number-one_to_one p (perm_at ps (word - line))
+          (cc (e, st.entry_is, digit-packed ps (word - line))),
+      run,
+      left_of_run-none,
+      right_of_run-none,
+      lengthened-none,
+    )

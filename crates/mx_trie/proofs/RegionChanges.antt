@@ -27,8 +27,10 @@ module _ (kind : Kind) (upper leaf spill : Frames) (lay : Laying) (b : Beside) (
       IsRegionFreed kind upper leaf spill upper' leaf' spill' e →
       IsRegionChanged kind upper leaf spill upper' leaf' spill' lay b x e e'
   region-covered upper' leaf' spill' from to e' is freed =
-      let whole = λ (m : List Perm) (h : IsBeside kind m lay b). cover-whole kind m lay b h 1048576 131072 x refl refl (omega arith) from to in
-      let alike = λ (m : List Perm) (h : IsBeside kind m lay b). cover-vector kind m lay b h 1048576 131072 x refl refl (omega arith) from to in
+      let whole = λ (m : List Perm) (h : IsBeside kind m lay b).
+      cover-whole kind m lay b h 1048576 131072 x refl refl (omega arith) from to in
+      let alike = λ (m : List Perm) (h : IsBeside kind m lay b).
+      cover-vector kind m lay b h 1048576 131072 x refl refl (omega arith) from to in
       search (arith, ap is_pointer is ∙ flat-closed (number lay.perm), whole, alike)
 
   -- the range has some words of the region: it is opened, its pages are changed, and it is closed
@@ -46,8 +48,13 @@ module _ (kind : Kind) (upper leaf spill : Frames) (lay : Laying) (b : Beside) (
       ArePagesChanged kind upper leaf spill upper' leaf' spill' lay b x (target e) →
       IsRegionChanged kind upper leaf spill upper' leaf' spill' lay b x e e
   region-beside upper' leaf' spill' apart p pages =
-      let shown : (m : List Perm) → IsBeside kind m lay b → IsRegion kind upper leaf spill m x e → IsRegion kind upper' leaf' spill' (laid_by lay m) x e =
-      λ m known region. record { broken = region.broken ∙ sym (apart-broken lay m 1048576 x apart); vector_is = λ closed. absurd (cc); pages = λ h. pages.shown m known (region.pages p) } in
+      let shown : (m : List Perm) → IsBeside kind m lay b → IsRegion kind upper leaf spill m x e
+      → IsRegion kind upper' leaf' spill' (laid_by lay m) x e =
+      λ m known region. record {
+        broken = region.broken ∙ sym (apart-broken lay m 1048576 x apart);
+        vector_is = λ closed. absurd (cc);
+        pages = λ h. pages.shown m known (region.pages p);
+      } in
       search (arith, move-below, target-of, shown)
 
   pub region-stays : IsApart lay.first lay.end (x * 1048576) (x * 1048576 + 1048576) → is_pointer e ≡ false →

@@ -6,7 +6,8 @@ use Rattle.mx_words.proofs.CountingLaws.{count_below_agree, sum_below_agree}
 use Rattle.mx_pool.specs.Frames.{word_at}
 use Rattle.mx_trie.specs.Leaf.{IsTrieKind}
 use Rattle.mx_trie.specs.Walk.{Frames, is_pointer, target}
-use Rattle.mx_trie.specs.Owned.{PlacesOwn, PageOwns, PagesOwn, RegionOwns, IsLeafTable, IsMidTable, page_spills, region_spills, region_leaves}
+use Rattle.mx_trie.specs.Owned.{PlacesOwn, PageOwns, PagesOwn, RegionOwns, IsLeafTable, IsMidTable, page_spills, region_spills}
+use Rattle.mx_trie.specs.Owned.{region_leaves}
 use Rattle.mx_trie.specs.Shown.{IsPage, IsRegion}
 use Rattle.mx_trie.proofs.EntryPuts.{IsKept}
 use Rattle.mx_trie.proofs.NodeLaws.{node-kept}
@@ -53,7 +54,8 @@ module _ (kind : Kind) (upper leaf spill upper' leaf' spill' : Frames) (e : ℕ)
   pages-own-same : is_pointer e ≡ true → (i a g : ℕ) → i < 1024 → PagesOwn kind upper' leaf' (target e) i a g →
       PagesOwn kind upper leaf (target e) i a g
   pages-own-same pointer i a g below own =
-      page-owns-same kind upper leaf spill upper' leaf' spill' (word_at upper (target e) i) (pages-kept pointer i below) a g (rw mid-words at own)
+      page-owns-same kind upper leaf spill upper' leaf' spill' (word_at upper (target e) i) (pages-kept pointer i below) a g
+      (rw mid-words at own)
 
   pub region-owns-same : (a g : ℕ) → RegionOwns kind upper' leaf' e a g → RegionOwns kind upper leaf e a g
   region-owns-same a g own =
@@ -64,7 +66,8 @@ module _ (kind : Kind) (upper leaf spill upper' leaf' spill' : Frames) (e : ℕ)
   region-table-kept table pointer = record {
     node = node-kept _ _ 0 (target e) 1024 _ _ (table pointer).node (λ a g own. kept a g (pointer, own)) (pages-own-same pointer);
     tables = λ i below.
-        rw (mid-words pointer i) (page-table-kept kind upper leaf spill upper' leaf' spill' _ (pages-kept pointer i below) ((table pointer).tables i below));
+        rw (mid-words pointer i) (page-table-kept kind upper leaf spill upper' leaf' spill' _ (pages-kept pointer i below)
+        ((table pointer).tables i below));
   }
 
   pub region-kept : IsTrieKind kind → (m : List Perm) (x : ℕ) → IsRegion kind upper leaf spill m x e →
@@ -73,12 +76,14 @@ module _ (kind : Kind) (upper leaf spill upper' leaf' spill' : Frames) (e : ℕ)
     broken = region.broken;
     vector_is = region.vector_is;
     pages = λ pointer i below.
-        rw (mid-words pointer i) (page-kept kind upper leaf spill upper' leaf' spill' _ (pages-kept pointer i below) k m _ (region.pages pointer i below));
+        rw (mid-words pointer i) (page-kept kind upper leaf spill upper' leaf' spill' _ (pages-kept pointer i below) k m _
+        (region.pages pointer i below));
   }
 
   pub region_spills-same : region_spills kind upper' leaf' e ≡ region_spills kind upper leaf e
   region_spills-same =
-      let each = λ (pointer : is_pointer e ≡ true) (i : ℕ) (below : i < 1024). page_spills-same kind upper leaf spill upper' leaf' spill' _ (pages-kept pointer i below) in
+      let each = λ (pointer : is_pointer e ≡ true) (i : ℕ) (below : i < 1024).
+      page_spills-same kind upper leaf spill upper' leaf' spill' _ (pages-kept pointer i below) in
       search (arith, sum_below_agree, each, mid-words)
 
   pub region_leaves-same : region_leaves upper' e ≡ region_leaves upper e

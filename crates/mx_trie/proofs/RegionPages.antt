@@ -1,5 +1,6 @@
 -- The pages of a region, exchanged one by one in its mid table: given back, or changed.
-use Rattle.std.proofs.Common.{◌≡◌, ◌≢◌, ℕ, zero, suc, ◌+◌, ◌-◌, ◌*◌, ◌/◌, ◌%◌, ◌<◌, ◌≤◌, ◌⊎◌, inl, inr, true, false, min, List, [], length, IsSome, refl, arith}
+use Rattle.std.proofs.Common.{◌≡◌, ◌≢◌, ℕ, zero, suc, ◌+◌, ◌-◌, ◌*◌, ◌/◌, ◌%◌, ◌<◌, ◌≤◌, ◌⊎◌, inl, inr, true, false, min, List, [], length}
+use Rattle.std.proofs.Common.{IsSome, refl, arith}
 use Rattle.mx_words.specs.declared.perm.Perm.{Perm}
 use Rattle.mx_words.specs.declared.tables.Kind.{Kind}
 use Rattle.mx_words.specs.Counting.{bit, sum_below}
@@ -63,15 +64,18 @@ module _ (kind : Kind) (upper leaf spill leaf' spill' upper'' : Frames) (frame p
       let level = page-level kind frame in let at : 4 * frame / 4 ≡ frame = omega arith in
       let a = rw (pointer-open, at) at was.leaf_count in let b = rw (pointer-open, at) at was.spill_count in
       let leaves = entry-count level put is_pointer _ _ page.leaf_count in
-      let spills = entry-sum level put (λ u l e. page_spills kind l e) (page_spills-same kind) (free_in spill) (free_in spill') page.spill_count in
-      let tables = holds-all level put (λ u l s w. is_pointer w ≡ true → IsLeafTable kind l s (target w)) (page-table-kept kind) table.tables page.table in
+      let spills = entry-sum level put (λ u l e. page_spills kind l e) (page_spills-same kind) (free_in spill) (free_in spill')
+      page.spill_count in
+      let tables = holds-all level put (λ u l s w. is_pointer w ≡ true
+      → IsLeafTable kind l s (target w)) (page-table-kept kind) table.tables page.table in
       search (arith, entry-put level put, move-then, was.move, pointer-open, at, a, b, leaves, spills)
 
   -- another page stands as before
   pub page-other : IsTrieKind kind → (m : List Perm) (y i : ℕ) → i < 1024 → i ≢ place →
       IsPage kind leaf spill m y (word_at upper frame i) → IsPage kind leaf' spill' m y (word_at upper'' frame i)
   page-other k m y i below ne was =
-      holds-other (page-level kind frame) put (λ u l s w. IsPage kind l s m y w) (λ u l s u' l' s' e kept. page-kept kind u l s u' l' s' e kept k m y) i below ne was
+      holds-other (page-level kind frame) put (λ u l s w. IsPage kind l s m y w) (λ u l s u' l' s' e kept.
+      page-kept kind u l s u' l' s' e kept k m y) i below ne was
 
 -- nothing is exchanged yet
 pub pages-same : (kind : Kind) (upper leaf spill : Frames) (frame : ℕ) → IsMidTable kind upper leaf spill frame →
@@ -88,7 +92,14 @@ module _ (kind : Kind) (upper leaf spill upper' leaf' spill' upper'' leaf'' spil
   pages-emptied closed freed written =
       let page : IsPageMoved kind leaf' spill' leaf'' spill'' (word_at upper' frame next) e' =
       search (arith, closed-spills kind leaf'' e' closed, freed.move.stays) in
-      search (arith, pages-moved _ _ _ _ _ _ _ _ _ _ within way.moved.table page written upper leaf spill way.moved, cases_below, written.others, way.closed)
+      search (
+        arith,
+        pages-moved _ _ _ _ _ _ _ _ _ _ within way.moved.table page written upper leaf spill
+            way.moved,
+        cases_below,
+        written.others,
+        way.closed,
+      )
 
   -- a page that has a vector stays
   pub pages-passed : is_pointer (word_at upper' frame next) ≡ false →
@@ -123,8 +134,17 @@ pub far-page : (kind : Kind) (leaf spill : Frames) (m : List Perm) (lay : Laying
     IsPage kind leaf spill m y e → IsPage kind leaf spill (laid_by lay m) y e
 far-page kind leaf spill m lay b known y e below far page =
     let apart : IsApart lay.first lay.end (y * 1024) (y * 1024 + 1024) = (let s = lay.some in grind arith) in
-    let lines = λ (i : ℕ) (inside : i < 64). far-line kind spill m lay b known (y * 64 + i) (word_at leaf (target e) i) (omega arith) (grind arith) in
-    search (arith, page.vector_is, page.lines, apart-broken lay m 1024 y apart, apart-vector lay m 1024 128 y apart refl refl (omega arith), lines)
+    let lines = λ (i : ℕ) (inside : i < 64). far-line kind spill m lay b known (y * 64 + i) (word_at leaf (target e) i) (omega arith)
+    (grind arith) in
+    search (
+      arith,
+      page.vector_is,
+      page.lines,
+      apart-broken lay m 1024 y apart,
+      apart-vector lay m 1024 128 y apart refl refl
+          (omega arith),
+      lines,
+    )
 
 module _ (kind : Kind) (k : IsTrieKind kind) (upper leaf spill : Frames) (lay : Laying) (beside : Beside)
     (x frame : ℕ) (below : x < most_regions) where
@@ -135,7 +155,8 @@ module _ (kind : Kind) (k : IsTrieKind kind) (upper leaf spill : Frames) (lay : 
   pages-none next table from far =
       let start = cuts-start 1024 next 1048576 x lay (omega arith) in
       let done = λ (m : _) (known : IsBeside kind m lay beside) (i : ℕ) (b : _) (l : _). far-page
-      kind leaf spill m _ _ known (x * 1024 + i) (word_at upper frame i) (omega arith) (inl (far i b l)) in search (arith, pages-same kind upper leaf spill frame table, done, room-start)
+      kind leaf spill m _ _ known (x * 1024 + i) (word_at upper frame i) (omega arith) (inl (far i b l)) in
+      search (arith, pages-same kind upper leaf spill frame table, done, room-start)
 
   module _ (upper' leaf' spill' : Frames) (next : ℕ)
       (way : ArePagesOnWay kind upper leaf spill upper' leaf' spill' lay beside x frame next) where
@@ -144,8 +165,10 @@ module _ (kind : Kind) (k : IsTrieKind kind) (upper leaf spill : Frames) (lay : 
         min (lay.end - 1 + form_reach kind) (most_words - 1) / 1024 < x * 1024 + k) →
         ArePagesChanged kind upper leaf spill upper' leaf' spill' lay beside x frame
     pages-all far =
-        let shown = λ (m : _) (known : IsBeside kind m lay beside) (old : _) (i : ℕ) (b : _). either (x * 1024 + i) next _ (way.done m known old i b)
-        (λ h. far-page _ _ _ m _ _ known _ _ (omega arith) (inr (far i b h)) (way.ahead m known old i b h)) in search (arith, shown, room-end, way.leaf_room, way.spill_room)
+        let shown = λ (m : _) (known : IsBeside kind m lay beside) (old : _) (i : ℕ) (b : _).
+        either (x * 1024 + i) next _ (way.done m known old i b)
+        (λ h. far-page _ _ _ m _ _ known _ _ (omega arith) (inr (far i b h)) (way.ahead m known old i b h)) in
+        search (arith, shown, room-end, way.leaf_room, way.spill_room)
 
     module _ (from : x * 1024 ≤ next) (to : next < x * 1024 + 1024) (e : ℕ)
         (is : e ≡ word_at upper' frame (next % 1024)) where
@@ -175,7 +198,21 @@ module _ (kind : Kind) (k : IsTrieKind kind) (upper leaf spill : Frames) (lay : 
             let less = cuts-step 1024 next (x * 1048576 + 1048576) lay (omega arith) (omega arith) in
             let other = page-other _ _ _ _ _ _ _ _ _ _ within way.moved.table page written k in
             let done = λ (m : _) (known : IsBeside kind m lay beside) (old : _) (i : ℕ) (b : i < 1024) (lt : x * 1024 + i < next + 1).
-            either (x * 1024 + i) next (IsPage kind leaf'' spill'' (laid_by lay m) (x * 1024 + i) (word_at upper'' frame i)) (λ h. other _ _ i b (omega arith) (way.done m known old i b h))
-            (λ h. let place : i ≡ next % 1024 = omega arith in let here : x * 1024 + i ≡ next = omega arith in rw (here, place, written.here) (told.shown m known (at-next m known old))) in
-            let ahead = λ (m : List Perm) (known : _) (old : _) (i : ℕ) (b : i < 1024) (le : next + 1 ≤ x * 1024 + i). other m _ i b (omega arith) (way.ahead m known old i b (omega arith)) in
-            search (arith, pages-moved _ _ _ _ _ _ _ _ _ _ within way.moved.table page written _ _ _ way.moved, done, ahead, room-more, way.leaf_room, told.leaf_room, way.spill_room, told.spill_room)
+            either (x * 1024 + i) next (IsPage kind leaf'' spill'' (laid_by lay m) (x * 1024 + i) (word_at upper'' frame i)) (λ h.
+            other _ _ i b (omega arith) (way.done m known old i b h))
+            (λ h. let place : i ≡ next % 1024 = omega arith in let here : x * 1024 + i ≡ next = omega arith in
+            rw (here, place, written.here) (told.shown m known (at-next m known old))) in
+            let ahead = λ (m : List Perm) (known : _) (old : _) (i : ℕ) (b : i < 1024) (le : next + 1 ≤ x * 1024 + i).
+            other m _ i b (omega arith) (way.ahead m known old i b (omega arith)) in
+            search (
+              arith,
+              pages-moved _ _ _ _ _ _ _ _ _ _ within way.moved.table page written _ _ _
+                  way.moved,
+              done,
+              ahead,
+              room-more,
+              way.leaf_room,
+              told.leaf_room,
+              way.spill_room,
+              told.spill_room,
+            )

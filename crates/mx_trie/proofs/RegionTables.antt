@@ -54,7 +54,17 @@ region-filled kind upper leaf spill upper' e frame closed filled =
     let even = even-of 1048576 131072 m x refl refl (omega arith) (sym region.broken ∙ closed) in
     let at : (x * 1024 + k) / 1024 ≡ x = omega arith in
     let part : k / 128 ≡ (x * 1024 + k) % 1024 / 128 = omega arith in
-    search (arith, closed-page, even_is 1024 128 m (x * 1024 + k) refl refl, region-page-even, filled.vectors, region-page-vector, region.vector_is, part) in
+    search (
+      arith,
+      closed-page,
+      even_is 1024 128 m (x * 1024 + k) refl
+          refl,
+      region-page-even,
+      filled.vectors,
+      region-page-vector,
+      region.vector_is,
+      part,
+    ) in
     let table : IsMidTable kind upper' leaf spill frame = search (arith, node-plain, closed-page) in
     let leaves : region_leaves upper e ≡ 0 = grind arith in
     let spills : region_spills kind upper leaf e ≡ 0 = grind arith in
@@ -65,7 +75,8 @@ pub region-open : (kind : Kind) (upper leaf spill : Frames) (x frame : ℕ) → 
     ((m : List Perm) → ArePages kind upper leaf spill m x frame → IsEntryOf region_words m x None) →
     IsRegionClosed kind upper leaf spill upper x frame (4 * frame)
 region-open kind upper leaf spill x frame table broken = let at : target (4 * frame) ≡ frame = omega arith in
-    let move = move-none (heap upper leaf spill) (MidOwns kind upper leaf frame) (RegionOwns kind upper leaf (4 * frame)) (λ a g own. rw at at own.1) in
+    let move = move-none (heap upper leaf spill) (MidOwns kind upper leaf frame) (RegionOwns kind upper leaf (4 * frame)) (λ a g own.
+    rw at at own.1) in
     search (arith, at, move, pointer-open, told-none, broken)
 
 -- a table that is given back where it isn't
@@ -76,7 +87,8 @@ pub region-closed : (kind : Kind) (upper leaf spill upper' : Frames) (x frame e 
     free_in upper' ≡ free_in upper + 1 → length upper' ≡ length upper →
     IsRegionClosed kind upper leaf spill upper' x frame e
 region-closed kind upper leaf spill upper' x frame e closable whole elsewhere more total = let n = closable.map in
-    let told = λ (m : List Perm) (pages : ArePages kind upper leaf spill m x frame). told-some (is_broken 1048576 m x) (vector 1048576 m (x * 1048576)) e (whole m pages) in
+    let told = λ (m : List Perm) (pages : ArePages kind upper leaf spill m x frame).
+    told-some (is_broken 1048576 m x) (vector 1048576 m (x * 1048576)) e (whole m pages) in
     let plain : (k : ℕ) → k < 1024 → is_pointer (word_at upper frame k) ≡ false = λ k below. grind (
       arith,
       closable.stands k below,

@@ -21,7 +21,8 @@ fold-none : (i : ℕ) (older : Perm) (row : List Span) → ((k : ℕ) → k < le
     fold (laid_at i) older (map granted row) ≡ older
 fold-none i older [] out = refl
 fold-none i older (s ∷ row) out =
-    fold-none i (laid_at i older (granted s)) row (λ k lt. out (suc k) (omega arith)) ∙ (let first = out 0 (omega arith) in grind (arith, laid_at_below, laid_at_behind))
+    fold-none i (laid_at i older (granted s)) row (λ k lt. out (suc k) (omega arith))
+    ∙ (let first = out 0 (omega arith) in grind (arith, laid_at_below, laid_at_behind))
 
 fold-in : (i : ℕ) (older : Perm) (row : List Span) (j : ℕ) → j < length row → (span_at row j).first ≤ i →
     i < (span_at row j).first + (span_at row j).count →
@@ -29,7 +30,8 @@ fold-in : (i : ℕ) (older : Perm) (row : List Span) (j : ℕ) → j < length ro
     fold (laid_at i) older (map granted row) ≡ (span_at row j).perm
 fold-in i older [] j lt from to later = absurd (omega arith)
 fold-in i older (s ∷ row) zero lt from to later =
-    fold-none i (laid_at i older (granted s)) row (λ k below. inl (later (suc k) (omega arith) (omega arith))) ∙ laid_at_in i older (granted s) from to
+    fold-none i (laid_at i older (granted s)) row (λ k below. inl (later (suc k) (omega arith) (omega arith)))
+    ∙ laid_at_in i older (granted s) from to
 fold-in i older (s ∷ row) (suc j) lt from to later =
     fold-in i (laid_at i older (granted s)) row j (omega arith) from to (λ k above below. later (suc k) (omega arith) (omega arith))
 

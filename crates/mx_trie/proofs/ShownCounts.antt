@@ -1,5 +1,6 @@
 -- A domain that stands for a map has as many tables and spill words as the map needs.
-use Rattle.std.proofs.Common.{◌≡◌, ℕ, zero, suc, ◌+◌, ◌-◌, ◌*◌, ◌<◌, ◌≤◌, Bool, true, false, List, length, if◌then◌else◌, refl, sym, ap, ◌∙◌, arith}
+use Rattle.std.proofs.Common.{◌≡◌, ℕ, zero, suc, ◌+◌, ◌-◌, ◌*◌, ◌<◌, ◌≤◌, Bool, true, false, List, length, if◌then◌else◌, refl, sym, ap}
+use Rattle.std.proofs.Common.{◌∙◌, arith}
 use Rattle.std.proofs.lemmas.List.{get_or_past}
 use Rattle.mx_words.specs.declared.perm.Perm.{Perm}
 use Rattle.mx_words.specs.declared.tables.Kind.{Kind}
@@ -66,12 +67,14 @@ module _ (kind : Kind) (m : List Perm) where
     arith,
     sum-plus pages (most_pages - pages) (page_crowd kind m),
     lines-crowded,
-    sum_below-none (most_pages - pages) (λ i. page_crowd kind m (pages + i)) (λ i below. even-crowd kind m (pages + i) (search (arith, get_or_past))),
+    sum_below-none (most_pages - pages) (λ i. page_crowd kind m (pages + i)) (λ i below.
+        even-crowd kind m (pages + i) (search (arith, get_or_past))),
   )
 
   pub pages-broken : length m ≤ most_words → sum_below most_regions (region_broken m) ≡ broken_blocks page_words m
   pages-broken few =
-      sym (sum-blocks most_regions 1024 (λ y. bit (is_broken page_words m y))) ∙ blocks-broken page_words m most_pages (omega arith) (omega arith)
+      sym (sum-blocks most_regions 1024 (λ y. bit (is_broken page_words m y)))
+      ∙ blocks-broken page_words m most_pages (omega arith) (omega arith)
 
   pub regions-crowded : sum_below most_regions (region_crowd kind m) ≡ spill_lines kind m
   regions-crowded = sym (sum-blocks most_regions 1024 (page_crowd kind m)) ∙ lines-crowded
@@ -88,12 +91,15 @@ module _ (kind : Kind) (k : IsTrieKind kind) (upper leaf spill : Frames) (m : Li
   module _ (few : length m ≤ most_words) (root : ℕ) (domain : IsDomain kind upper leaf spill m root) where
     pub mids-shown : domain_mids upper root ≡ broken_blocks region_words m
     mids-shown =
-        count-sum most_regions _ ∙ sum_below_agree most_regions _ _ (λ x below. ap bit (domain x below).broken) ∙ blocks-broken region_words m most_regions (omega arith) (omega arith)
+        count-sum most_regions _ ∙ sum_below_agree most_regions _ _ (λ x below. ap bit (domain x below).broken)
+        ∙ blocks-broken region_words m most_regions (omega arith) (omega arith)
 
     pub leaves-shown : domain_leaves upper root ≡ broken_blocks page_words m
-    leaves-shown = sum_below_agree most_regions _ _ (λ x below. by-pointer _ _ _ (λ p. count-sum 1024 _ ∙ sum_below_agree 1024 _ _ (λ i inside. ap bit ((domain x below).pages p i inside).broken))
+    leaves-shown = sum_below_agree most_regions _ _ (λ x below.
+        by-pointer _ _ _ (λ p. count-sum 1024 _ ∙ sum_below_agree 1024 _ _ (λ i inside. ap bit ((domain x below).pages p i inside).broken))
         (λ p. even-broken kind m x (sym (domain x below).broken ∙ p))) ∙ pages-broken kind m few
 
     pub spills-shown : domain_spills kind upper leaf root ≡ spill_lines kind m
     spills-shown = sum_below_agree most_regions _ _ (λ x below. by-pointer _ _ _
-        (λ p. sum_below_agree 1024 _ _ (λ i inside. page-spills _ _ ((domain x below).pages p i inside))) (λ p. even-crowds kind m x (sym (domain x below).broken ∙ p))) ∙ regions-crowded kind m
+        (λ p. sum_below_agree 1024 _ _ (λ i inside. page-spills _ _ ((domain x below).pages p i inside))) (λ p.
+        even-crowds kind m x (sym (domain x below).broken ∙ p))) ∙ regions-crowded kind m

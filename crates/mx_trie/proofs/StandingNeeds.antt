@@ -72,9 +72,12 @@ module _ (kind : Kind) (k : IsTrieKind kind) (upper leaf spill : Frames) (words 
       let t = stands.tables in let n : ℕ = length roots in
       let short : (d : ℕ) → length (maps d) ≤ most_words =
       λ d. omega (arith, t.few_words, long kind upper leaf spill words roots d) in
-      let u = sum_below_agree n (λ d. domain_mids upper (root_at roots d)) (λ d. broken_blocks region_words (maps d)) (λ d b. mids-shown kind k upper leaf spill _ (short d) _ (t.shown d b)) in
-      let l = sum_below_agree n (λ d. domain_leaves upper (root_at roots d)) (λ d. broken_blocks page_words (maps d)) (λ d b. leaves-shown kind k upper leaf spill _ (short d) _ (t.shown d b)) in
-      let s = sum_below_agree n (λ d. domain_spills kind upper leaf (root_at roots d)) (λ d. spill_lines kind (maps d)) (λ d b. spills-shown kind k upper leaf spill _ (short d) _ (t.shown d b)) in
+      let u = sum_below_agree n (λ d. domain_mids upper (root_at roots d)) (λ d. broken_blocks region_words (maps d)) (λ d b.
+      mids-shown kind k upper leaf spill _ (short d) _ (t.shown d b)) in
+      let l = sum_below_agree n (λ d. domain_leaves upper (root_at roots d)) (λ d. broken_blocks page_words (maps d)) (λ d b.
+      leaves-shown kind k upper leaf spill _ (short d) _ (t.shown d b)) in
+      let s = sum_below_agree n (λ d. domain_spills kind upper leaf (root_at roots d)) (λ d. spill_lines kind (maps d)) (λ d b.
+      spills-shown kind k upper leaf spill _ (short d) _ (t.shown d b)) in
       search arith
 
   -- a change takes at most two more frames of each sort for each domain, so it fits where there are as many beside the spare ones
@@ -85,7 +88,8 @@ module _ (kind : Kind) (k : IsTrieKind kind) (upper leaf spill : Frames) (words 
         (λ d. f (changed_map change.first change.count (given change (d + 1)) (maps d))) ≤ sum_below (length roots)
         (λ d. f (maps d)) + 2 * length roots
     sum-two f more =
-        let le = sum_below_at_most (length roots) (λ d. f (changed_map change.first change.count (given change (d + 1)) (maps d))) (λ d. 2 + f (maps d)) (λ d below. grind (arith, more)) in
+        let le = sum_below_at_most (length roots) (λ d. f (changed_map change.first change.count (given change (d + 1)) (maps d))) (λ d.
+        2 + f (maps d)) (λ d below. grind (arith, more)) in
         omega (arith, le, sum_below-each (length roots) 2 (λ d. f (maps d)))
 
     pub spacious-fits : 4 * length roots ≤ free_in upper → 4 * length roots ≤ free_in leaf →
@@ -96,9 +100,12 @@ module _ (kind : Kind) (k : IsTrieKind kind) (upper leaf spill : Frames) (words 
         let all = frames-counted in let len = long kind upper leaf spill words roots in
         let is = need-read kind upper leaf spill words roots k few in
         let new = need-changed kind upper leaf spill words roots k few change in
-        let u = sum-two (broken_blocks region_words) (λ d p. broken_blocks-after (maps d) _ _ p (omega (arith, len d)) region_words 131072 16 refl refl (omega arith) (omega (arith, len d))) in
-        let l = sum-two (broken_blocks page_words) (λ d p. broken_blocks-after (maps d) _ _ p (omega (arith, len d)) page_words 128 16384 refl refl (omega arith) (omega (arith, len d))) in
-        let s = sum-two (spill_lines kind) (λ d p. spill-two kind k (maps d) change.first change.count p (omega (arith, len d)) (omega (arith, len d))) in
+        let u = sum-two (broken_blocks region_words) (λ d p. broken_blocks-after (maps d) _ _ p (omega (arith, len d)) region_words 131072
+        16 refl refl (omega arith) (omega (arith, len d))) in
+        let l = sum-two (broken_blocks page_words) (λ d p. broken_blocks-after (maps d) _ _ p (omega (arith, len d)) page_words 128 16384
+        refl refl (omega arith) (omega (arith, len d))) in
+        let s = sum-two (spill_lines kind) (λ d p. spill-two kind k (maps d) change.first change.count p (omega (arith, len d))
+        (omega (arith, len d))) in
         search (arith, within-whole, cases_lt 0 (form_reach kind), spill_room)
 
   -- tables that stand for the changed maps are read as these, and stand where they fit

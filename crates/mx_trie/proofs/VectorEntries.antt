@@ -21,12 +21,14 @@ module _ (kind : Kind) (k : IsTrieKind kind) (m : List Perm) (spill : Frames) (y
     (p : Perm) (told : vector_perm entry (j / 8) ≡ p) (e : ℕ) where
   perms : line_at m ((y * 64 + j) * 16) ≡ flat_line p
   perms =
-      (let at : (y * 64 + j) % 64 / 8 ≡ j / 8 = omega arith in cc (even-line m y (y * 64 + j) (omega arith) even, page-part m y (j / 8) entry (omega arith) even is))
+      (let at : (y * 64 + j) % 64 / 8 ≡ j / 8 = omega arith in
+      cc (even-line m y (y * 64 + j) (omega arith) even, page-part m y (j / 8) entry (omega arith) even is))
 
   pub vector-line-out : length m ≤ (y * 64 + j) * 16 → ((n : ℕ) → e ≡ leaf_entry kind (flat_line p) 0 0 n) →
       IsLine kind spill m (y * 64 + j) e
   vector-line-out past made =
-      flat-line-shown kind k spill m (y * 64 + j) p 0 0 e perms (left-out kind m (y * 64 + j) past) (right-out kind m (y * 64 + j) past) made
+      flat-line-shown kind k spill m (y * 64 + j) p 0 0 e perms (left-out kind m (y * 64 + j) past) (right-out kind m (y * 64 + j) past)
+      made
 
   pub vector-line-in : (outer : Outer) → IsOuter kind m y outer → (y * 64 + j) * 16 < length m →
       (before behind left right : ℕ) →

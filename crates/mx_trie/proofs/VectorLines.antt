@@ -38,10 +38,17 @@ module _ (kind : Kind) (k : IsTrieKind kind) (m : List Perm) (y : ℕ) (entry : 
       let n : ℕ = y * 1024 + part * 128 in
       let r : ℕ = form_reach kind in let p : Perm = vector_perm entry part in elim (cases_eq part 0) [
         | inl h ↦ search (arith, b.first, left-back, word-of)
-        | inr h ↦ let last = word-of (part - 1) (n - 1) (omega arith) (omega arith) (omega arith) in elim (cases_eq (number (vector_perm entry (part - 1))) (number p)) [
-          | inl g ↦ (let e = number-one_to_one _ _ g in omega (arith, reach-small kind k, b.same, back-along r p m (n - 128) n (omega arith) (omega arith) (search (arith, word-of (part - 1)))))
-          | inr g ↦ omega (arith, b.other (omega arith) (λ e. g (cc)), back-other r p m n (omega arith) (omega arith) (λ e. g (cc)))
-        ]
+        | inr h ↦ let last = word-of (part - 1) (n - 1) (omega arith) (omega arith) (omega arith) in
+            elim (cases_eq (number (vector_perm entry (part - 1))) (number p)) [
+              | inl g ↦ (let e = number-one_to_one _ _ g in omega (
+                arith,
+                reach-small kind k,
+                b.same,
+                back-along r p m (n - 128) n (omega arith) (omega arith)
+                    (search (arith, word-of (part - 1))),
+              ))
+              | inr g ↦ omega (arith, b.other (omega arith) (λ e. g (cc)), back-other r p m n (omega arith) (omega arith) (λ e. g (cc)))
+            ]
       ]
 
   -- how many words behind it have its permission
@@ -49,14 +56,35 @@ module _ (kind : Kind) (k : IsTrieKind kind) (m : List Perm) (y : ℕ) (entry : 
       min count (length m - (y * 1024 + part * 128 + 128)) ≡ ahead (form_reach kind)
       (vector_perm entry part) m (y * 1024 + part * 128 + 128)
   behind-is count b =
-      search (arith, cases_eq, is-ahead, word-of, b.last, right-ahead, cases_lt, number-one_to_one, reach-small, ahead-along, b.same, ahead-other, b.other)
+      search (
+        arith,
+        cases_eq,
+        is-ahead,
+        word-of,
+        b.last,
+        right-ahead,
+        cases_lt,
+        number-one_to_one,
+        reach-small,
+        ahead-along,
+        b.same,
+        ahead-other,
+        b.other,
+      )
 
   -- the reaches of a line of the eighth
   module _ (z : ℕ) (page : z / 64 ≡ y) (at : z / 8 % 8 ≡ part) where
     pub vector-left : (count : ℕ) → z * 16 < length m → IsBeforeEighth entry part outer.left (form_reach kind) count →
         map_left kind m z ≡ min (z % 8 * 16 + count) (form_reach kind)
     vector-left count inside b =
-        search (arith, before-is, left-back, word-of, back-along (form_reach kind) (vector_perm entry part) m (y * 1024 + part * 128) (z * 16) (omega arith) (omega arith) (search (arith, word-of)))
+        search (
+          arith,
+          before-is,
+          left-back,
+          word-of,
+          back-along (form_reach kind) (vector_perm entry part) m (y * 1024 + part * 128)
+              (z * 16) (omega arith) (omega arith) (search (arith, word-of)),
+        )
 
     pub vector-right : (count : ℕ) → z * 16 < length m → IsBehindEighth entry part outer.right (form_reach kind) count →
         map_right kind m z ≡ min (min ((7 - z % 8) * 16 + count) (form_reach kind)) (length m - (z * 16 + 16))

@@ -18,7 +18,14 @@ pub part-more : (m : List Perm) (first part e entry : ℕ) (p : Perm) → e < 8 
     IsPartVector m first part (e + 1) (number p + 4 * entry)
 part-more m first part e entry p below v r =
     let xs : List Perm = eighths (8 * part) m first in let f : ℕ → Perm = λ j. perm_at m (first + 8 * part / 8 * j) in
-    grind (arith, drop_more xs (7 - e) P.None (omega (arith, length-map-range_with_len f 0 8)), get_or-map-range_with_len f 0 8 (7 - e) (7 - e) P.None (omega arith) (omega arith), r, mul_comm part)
+    grind (
+      arith,
+      drop_more xs (7 - e) P.None (omega (arith, length-map-range_with_len f 0 8)),
+      get_or-map-range_with_len f 0 8 (7 - e)
+          (7 - e) P.None (omega arith) (omega arith),
+      r,
+      mul_comm part,
+    )
 
 pub part-small : (m : List Perm) (first part e entry : ℕ) → IsPartVector m first part e entry → entry < 65536
 part-small m first part e entry v = search (arith, packed-below 8, length-drop, length-map-range_with_len)

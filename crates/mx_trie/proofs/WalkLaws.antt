@@ -1,5 +1,6 @@
 -- What a walk for a word finds in tables that stand for their map.
-use Rattle.std.proofs.Common.{◌≡◌, ◌≢◌, ℕ, ◌*◌, ◌/◌, ◌%◌, ◌<◌, Bool, true, false, not, List, [], Some, None, is_some, if◌then◌else◌, refl, sym, arith, lt-ltb}
+use Rattle.std.proofs.Common.{◌≡◌, ◌≢◌, ℕ, ◌*◌, ◌/◌, ◌%◌, ◌<◌, Bool, true, false, not, List, [], Some, None, is_some, if◌then◌else◌, refl}
+use Rattle.std.proofs.Common.{sym, arith, lt-ltb}
 use Rattle.mx_words.specs.declared.perm.Perm.{Perm}
 use Rattle.mx_words.specs.declared.tables.Kind.{Kind}
 use Rattle.mx_words.specs.declared.tables.Kind.TheVariants as K
@@ -46,15 +47,21 @@ module _ (kind : Kind) (k : IsTrieKind kind) (upper leaf spill : Frames) (words 
     (read : IsRead kind words upper leaf spill root) (i : ℕ) (inside : i < words) where
   module _ (a : ℕ) (e : a ≡ root_word upper root (i / 1048576)) where
     pub end-root : a % 4 ≢ 0 → IsFound kind (read_map kind upper leaf spill words root) i (F.Root a)
-    end-root miss = let r = way-region kind upper leaf spill words root read i (omega arith) a e in
-        (level-by kind k _ i false _ _ (search (arith, r.broken, is-closed)) refl refl, search (arith, even-of, r.broken, is-closed, r.vector_is))
+    end-root miss = let r = way-region kind upper leaf spill words root read i (omega arith) a e in (
+      level-by kind k _ i false _ _ (search (arith, r.broken, is-closed)) refl refl,
+      search
+          (arith, even-of, r.broken, is-closed, r.vector_is),
+    )
 
     module _ (hit : a % 4 ≡ 0) (b : ℕ) (f : b ≡ word_at upper (a / 4) (i / 1024 % 1024)) where
       pub end-mid : b % 4 ≢ 0 → IsFound kind (read_map kind upper leaf spill words root) i (F.Mid b)
       end-mid miss =
           let r = way-region kind upper leaf spill words root read i (omega arith) a e in
-          let p = way-page kind upper leaf spill words root read i (omega arith) a e hit b f in
-          (level-by kind k _ i true false _ (search (arith, r.broken, is-open)) (search (arith, p.broken, is-closed)) refl, search (arith, even-of, p.broken, is-closed, p.vector_is))
+          let p = way-page kind upper leaf spill words root read i (omega arith) a e hit b f in (
+            level-by kind k _ i true false _ (search (arith, r.broken, is-open)) (search (arith, p.broken, is-closed)) refl,
+            search
+                (arith, even-of, p.broken, is-closed, p.vector_is),
+          )
 
       module _ (also : b % 4 ≡ 0) (l : ℕ) (h : l ≡ word_at leaf (b / 4) (i / 16 % 64)) where
         leaf-of : (level kind (read_map kind upper leaf spill words root) i ≡ decided true true (is_some (spill_number kind l)))

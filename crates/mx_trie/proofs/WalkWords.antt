@@ -63,7 +63,8 @@ module _ (kind : Kind) (upper leaf spill : Frames) (words root : ℕ) (read : Is
 
             pub way-spill : (g : ℕ) → spill_number kind l ≡ Some g → IsTaken spill g
             way-spill g named =
-                (let t : IsLeafTable kind leaf spill (b / 4) = search (arith, way-mid.tables, is-open) in t.parts.taken (i / 16 % 64) 2 g (omega arith) (refl, (cc)))
+                (let t : IsLeafTable kind leaf spill (b / 4) = search (arith, way-mid.tables, is-open) in
+                t.parts.taken (i / 16 % 64) 2 g (omega arith) (refl, (cc)))
 
             pub way-some : IsSomeLine kind spill (i / 16) l
             way-some =

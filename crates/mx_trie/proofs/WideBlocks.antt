@@ -41,7 +41,8 @@ module _ (kind : Kind) (upper leaf spill : Frames) (m : List Perm) (x frame part
   -- its pages have one vector of one permission
   pub wide-some : (p : Perm) → ((j : ℕ) → j < 128 → word_at upper frame (128 * part + j) ≡ flat_vector (number p)) →
       IsPermOf m (x * 1048576 + part * 131072) 131072 (Some p)
-  wide-some p words = perm-some m (x * 1048576 + part * 131072) 131072 p (λ k inside. let page = rw (words (k / 1024) (omega arith)) at (pages (128 * part + k / 1024) (omega arith)) in
+  wide-some p words = perm-some m (x * 1048576 + part * 131072) 131072 p (λ k inside. let page =
+      rw (words (k / 1024) (omega arith)) at (pages (128 * part + k / 1024) (omega arith)) in
       let told = page-word kind upper leaf spill m _ _ (flat-closed (number p)) page (x * 1048576 + part * 131072 + k) (omega arith) in
       search (arith, number-one_to_one, told, flat-digit, number-small))
 
@@ -54,7 +55,13 @@ module _ (kind : Kind) (upper leaf spill : Frames) (m : List Perm) (x frame part
       let y : ℕ = x * 1024 + (128 * part + j) in let page = pages (128 * part + j) (omega arith) in
       let words : (k : ℕ) → k < 1024 → perm_at m (y * 1024 + k) ≡ perm_at m (x * 1048576 + part * 131072) =
       λ k low. grind (arith, alike (j * 1024 + k)) in
-      search (arith, uniform-whole 1024 128 m y _ refl refl (omega arith) words, uniform-vector 1024 128 m y _ refl refl (omega arith) words, page.vector_is)
+      search (
+        arith,
+        uniform-whole 1024 128 m y _ refl refl (omega arith) words,
+        uniform-vector 1024 128 m y _ refl refl (omega arith)
+            words,
+        page.vector_is,
+      )
 
 -- a number of e digits of two bits, with one more digit
 pub digits-more : (e n d : ℕ) → n < 2 ^ (2 * e) → d < 4 → d + 4 * n < 2 ^ (2 * (e + 1))

@@ -12,7 +12,8 @@ use Rattle.mx_trie.specs.declared.laying.Beside.{Beside}
 use Rattle.mx_trie.specs.Leaf.{spill_number}
 use Rattle.mx_trie.specs.Walk.{Frames, is_pointer, target}
 use Rattle.mx_trie.specs.Heap.{heap, IsMove}
-use Rattle.mx_trie.specs.Owned.{LineOwns, LeafOwns, PageOwns, MidOwns, RegionOwns, DomainOwns, IsLeafTable, IsMidTable, IsRootTable, line_spills, page_spills, region_spills, region_leaves, domain_mids, domain_leaves, domain_spills}
+use Rattle.mx_trie.specs.Owned.{LineOwns, LeafOwns, PageOwns, MidOwns, RegionOwns, DomainOwns, IsLeafTable, IsMidTable, IsRootTable}
+use Rattle.mx_trie.specs.Owned.{line_spills, page_spills, region_spills, region_leaves, domain_mids, domain_leaves, domain_spills}
 use Rattle.mx_trie.specs.Shown.{IsLine, AreLines, IsPage, ArePages, IsRegion, IsDomain}
 use Rattle.mx_trie.specs.Laying.{laid_by, cuts, IsBeside}
 

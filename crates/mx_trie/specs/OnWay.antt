@@ -10,7 +10,8 @@ use Rattle.mx_trie.specs.Digits.{digit}
 use Rattle.mx_trie.specs.Filled.{flat_vector}
 use Rattle.mx_trie.specs.Walk.{Frames, most_regions, is_pointer, root_word}
 use Rattle.mx_trie.specs.Heap.{heap, IsMove}
-use Rattle.mx_trie.specs.Owned.{LeafOwns, MidOwns, DomainOwns, IsLeafTable, IsMidTable, IsRootTable, line_spills, region_spills, region_leaves, domain_mids, domain_leaves, domain_spills}
+use Rattle.mx_trie.specs.Owned.{LeafOwns, MidOwns, DomainOwns, IsLeafTable, IsMidTable, IsRootTable, line_spills, region_spills}
+use Rattle.mx_trie.specs.Owned.{region_leaves, domain_mids, domain_leaves, domain_spills}
 use Rattle.mx_trie.specs.Shown.{IsLine, AreLines, IsPage, ArePages, IsRegion, IsDomain}
 use Rattle.mx_trie.specs.Laying.{laid_by, cuts, IsBeside}
 

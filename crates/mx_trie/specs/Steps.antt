@@ -15,7 +15,8 @@ use Rattle.mx_trie.specs.declared.laying.Outer.{Outer}
 use Rattle.mx_trie.specs.Leaf.{spill_number}
 use Rattle.mx_trie.specs.Walk.{Frames, is_pointer, target, vector_perm}
 use Rattle.mx_trie.specs.Heap.{heap, IsMove}
-use Rattle.mx_trie.specs.Owned.{LineOwns, LeafOwns, PageOwns, MidOwns, RegionOwns, IsLeafTable, IsMidTable, line_spills, page_spills, region_spills, region_leaves}
+use Rattle.mx_trie.specs.Owned.{LineOwns, LeafOwns, PageOwns, MidOwns, RegionOwns, IsLeafTable, IsMidTable, line_spills, page_spills}
+use Rattle.mx_trie.specs.Owned.{region_spills, region_leaves}
 use Rattle.mx_trie.specs.Shown.{IsLine, AreLines, IsPage, ArePages, IsRegion, IsDomain}
 use Rattle.mx_trie.specs.Laying.{IsBeside, IsOuter}
 

@@ -45,7 +45,8 @@ impl<V: View> ChangedView<'_, V> {
         requires few { length (V.map self.now.under.now) ≤ most_words }
         requires outside { (word < self.now.first) ⊎ (self.now.first + self.now.count ≤ word) }
         requires round { IsRound (V.map self.now.under.now) word span }
-        ensures { IsRound (laid (grant_of self.now.first self.now.count self.now.perm) (V.map self.now.under.now)) word result }
+        ensures { IsRound (laid (grant_of self.now.first self.now.count self.now.perm) (V.map self.now.under.now)) word
+            result }
     {
         if word < self.first {
             Span {
@@ -67,7 +68,8 @@ impl<V: View> ChangedView<'_, V> {
 impl<V: View> View for ChangedView<'_, V> {
     ghost map = { λ v. laid (grant_of v.first v.count v.perm) (V.map v.under.now) };
 
-    ghost lawful = { λ v. V.lawful v.under.now × ((v.first + v.count ≤ length (V.map v.under.now)) × (length (V.map v.under.now) ≤ most_words)) };
+    ghost lawful = { λ v. V.lawful v.under.now
+        × ((v.first + v.count ≤ length (V.map v.under.now)) × (length (V.map v.under.now) ≤ most_words)) };
 
     fn around(&self, word: u32) -> Span {
         if self.is_laid(word) {

@@ -39,9 +39,11 @@ fn line_perm<L: LeafForm>(entry: u32, line: u32) -> Option<Perm>
 fn is_line_of<L: LeafForm>(entry: u32, line: u32, perm: Perm) -> bool
     requires line { line < most_lines }
     requires stands { (spill : Frames) × IsLineOfSome L.kind spill line entry }
-    ensures yes { (spill : Frames) (m : List Perm) → length m ≤ most_words → IsLine L.kind spill m line entry → result ≡ true →
+    ensures yes { (spill : Frames) (m : List Perm) →
+        length m ≤ most_words → IsLine L.kind spill m line entry → result ≡ true →
         (k : ℕ) → k < 16 → perm_at m (line * 16 + k) ≡ perm }
-    ensures no { (spill : Frames) (m : List Perm) → length m ≤ most_words → IsLine L.kind spill m line entry → result ≡ false →
+    ensures no { (spill : Frames) (m : List Perm) →
+        length m ≤ most_words → IsLine L.kind spill m line entry → result ≡ false →
         ((k : ℕ) → k < 16 → perm_at m (line * 16 + k) ≡ perm) → ⊥ }
 {
     match line_perm::<L>(entry, line) {

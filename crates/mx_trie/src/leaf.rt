@@ -4,7 +4,8 @@ ghost use Rattle.mx_words.specs.declared.perm.Perm.{Perm};
 ghost use Rattle.mx_words.specs.declared.tables.Kind.{Kind};
 ghost use Rattle.mx_words.specs.Runs.{line_words};
 ghost use Rattle.mx_trie.specs.Filled.{flat_line};
-ghost use Rattle.mx_trie.specs.Leaf.{IsTrieKind, form_reach, needs_spill, leaf_entry, spill_number, named_spill, entry_run, IsStored, IsEntry};
+ghost use Rattle.mx_trie.specs.Leaf.{IsTrieKind, form_reach, needs_spill, leaf_entry, spill_number, named_spill};
+ghost use Rattle.mx_trie.specs.Leaf.{entry_run, IsStored, IsEntry};
 
 use mx_words::{Perm, Span};
 
@@ -41,7 +42,8 @@ pub trait LeafForm {
     /// The number of the spill word that an entry names. `None` exactly where it names none.
     fn spill_of(entry: u32) -> Option<u32>
         ensures value { result ≡ spill_number kind entry }
-        ensures named { (perms : List Perm) (left right spill : ℕ) → entry ≡ leaf_entry kind perms left right spill → result ≡ named_spill kind perms spill };
+        ensures named { (perms : List Perm) (left right spill : ℕ) → entry ≡ leaf_entry kind perms left right spill →
+            result ≡ named_spill kind perms spill };
 
     /// The run of a word inside its line, lengthened by the reaches that the entry was made with. `line` is the
     /// line's first word, `word` lies in the line, the entry's reaches stay in RAM, and `spilled` is its spill
@@ -50,7 +52,9 @@ pub trait LeafForm {
         requires entry { IsEntry kind line entry spilled }
         requires from { line ≤ word }
         requires below { word < line + line_words }
-        ensures { (perms : List Perm) (left right spill : ℕ) → IsStored kind perms left right spill line entry spilled → result ≡ entry_run kind perms left right line word };
+        ensures { (perms : List Perm) (left right spill : ℕ) →
+            IsStored kind perms left right spill line entry spilled →
+            result ≡ entry_run kind perms left right line word };
 
     // The kind is one of the two kinds of tries, and the greatest reach is that kind's.
     ghost trie: { IsTrieKind kind };

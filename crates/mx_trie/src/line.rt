@@ -1,5 +1,6 @@
 //! One line of a change: its entry before and after, with the spill word that is taken for it or given back.
-ghost use Rattle.std.specs.Prelude.{◌≡◌, ◌≢◌, ℕ, ◌+◌, ◌-◌, ◌*◌, ◌/◌, ◌%◌, ◌<◌, ◌≤◌, ◌^◌, List, length, true, false, None, Some, IfSome, is_some, max};
+ghost use Rattle.std.specs.Prelude.{◌≡◌, ◌≢◌, ℕ, ◌+◌, ◌-◌, ◌*◌, ◌/◌, ◌%◌, ◌<◌, ◌≤◌, ◌^◌, List, length, true, false};
+ghost use Rattle.std.specs.Prelude.{None, Some, IfSome, is_some, max};
 ghost use Rattle.mx_words.specs.declared.perm.Perm.{Perm};
 ghost use Rattle.mx_words.specs.declared.tables.Kind.{Kind};
 ghost use Rattle.mx_words.specs.Counting.{bit};

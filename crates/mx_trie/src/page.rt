@@ -1,6 +1,7 @@
 //! One page of a change: its entry in a mid table before and after, with the leaf table that is made for it or
 //! given back.
-ghost use Rattle.std.specs.Prelude.{◌≡◌, ◌≢◌, ℕ, ◌+◌, ◌-◌, ◌*◌, ◌/◌, ◌<◌, ◌≤◌, ◌^◌, ◌⊎◌, List, length, true, false, None};
+ghost use Rattle.std.specs.Prelude.{◌≡◌, ◌≢◌, ℕ, ◌+◌, ◌-◌, ◌*◌, ◌/◌, ◌<◌, ◌≤◌, ◌^◌, ◌⊎◌, List, length, true, false};
+ghost use Rattle.std.specs.Prelude.{None};
 ghost use Rattle.mx_words.specs.declared.perm.Perm.{Perm};
 ghost use Rattle.mx_words.specs.Blocks.{IsEven};
 ghost use Rattle.mx_words.specs.Reach.{vector};
@@ -12,7 +13,9 @@ ghost use Rattle.mx_trie.specs.Owned.{IsLeafTable};
 ghost use Rattle.mx_trie.specs.Shown.{IsLine};
 ghost use Rattle.mx_trie.specs.Laying.{cuts, IsOuter};
 ghost use Rattle.mx_trie.specs.Changed.{IsPageChanged, AreLinesChanged};
-ghost use Rattle.mx_trie.specs.Steps.{IsSomePage, AreSomeLines, IsPageOpened, IsPageMade, IsBeforeEighth, IsBehindEighth, IsClosable, IsPageClosed, IsPageFreed, IsLineFreed, AreLinesFreed};
+ghost use Rattle.mx_trie.specs.Steps.{IsSomePage, AreSomeLines, IsPageOpened, IsPageMade, IsBeforeEighth};
+ghost use Rattle.mx_trie.specs.Steps.{IsBehindEighth, IsClosable, IsPageClosed, IsPageFreed, IsLineFreed};
+ghost use Rattle.mx_trie.specs.Steps.{AreLinesFreed};
 
 use crate::LeafForm;
 use crate::even::page_entry;

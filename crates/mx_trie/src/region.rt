@@ -8,7 +8,8 @@ ghost use Rattle.mx_trie.specs.Walk.{Frames, most_regions, is_pointer, target};
 ghost use Rattle.mx_trie.specs.Owned.{IsMidTable};
 ghost use Rattle.mx_trie.specs.Laying.{cuts};
 ghost use Rattle.mx_trie.specs.Changed.{IsRegionChanged, ArePagesChanged};
-ghost use Rattle.mx_trie.specs.Steps.{IsSomeRegion, AreSomePages, IsRegionOpened, IsClosableRegion, IsRegionClosed, IsRegionFreed, ArePagesFreed};
+ghost use Rattle.mx_trie.specs.Steps.{IsSomeRegion, AreSomePages, IsRegionOpened, IsClosableRegion, IsRegionClosed};
+ghost use Rattle.mx_trie.specs.Steps.{IsRegionFreed, ArePagesFreed};
 
 use crate::LeafForm;
 use crate::even::region_entry;

@@ -105,7 +105,12 @@ pub(crate) fn found_span<L: LeafForm>(found: Found, word: u32, words: u32) -> Sp
 fn block_item(level: Level, size: u32, word: u32, words: u32, stored: u32) -> Shown
     requires some { 0 < size }
     requires inside { word < words }
-    ensures { result ≡ record { level = level; first = first_in size word; count = min size (words - first_in size word); stored = stored } }
+    ensures { result ≡ record {
+      level = level;
+      first = first_in size word;
+      count = min size (words - first_in size word);
+      stored = stored;
+    } }
 {
     let first = word / size * size;
     Shown {

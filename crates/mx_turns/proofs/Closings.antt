@@ -11,7 +11,8 @@ use Rattle.mx_turns.specs.declared.fault.SinkFault.TheVariants as F
 use Rattle.mx_turns.specs.Ends.{FailsAt, Texts, Sinks, sinks, IsSinkFault, Leave, StopsTurns, MakesTurns}
 use Rattle.mx_turns.specs.Runs.{undumped}
 use Rattle.mx_turns.specs.Running.{Put, Breaks, PutOrBreaks, Places, places, HasTexts, StopsAt, Closes}
-use Rattle.mx_turns.proofs.Sinking.{BreaksSomewhere, breaks_more, breaks_same, breaks_sent, moves_put, moves_unput, prefix_moves, prefix_none, prefix_tells, prefix_whole, put_same, tells_of}
+use Rattle.mx_turns.proofs.Sinking.{BreaksSomewhere, breaks_more, breaks_same, breaks_sent, moves_put, moves_unput, prefix_moves}
+use Rattle.mx_turns.proofs.Sinking.{prefix_none, prefix_tells, prefix_whole, put_same, tells_of}
 
 -- what a text is before more of it
 abbrev Begun : List ℕ → List ℕ → Type 0
@@ -20,7 +21,8 @@ Begun whole front = (more : List ℕ) × (whole ≡ front ++ more)
 breaks_begun : (k : ℕ) (b n : SinkState) (whole front : List ℕ) → Begun whole front → Breaks k b n front → Breaks k b n whole
 breaks_begun k b n whole front is p = breaks_same k b n (front ++ is.0) whole (sym is.1) (breaks_more k b n front is.0 p)
 
-prefix_begun : (b n : SinkState) (whole front : List ℕ) → Begun whole front → ((y : List ℕ) → AppendsPrefix b.written n.written (front ++ y)) → AppendsPrefix b.written n.written whole
+prefix_begun : (b n : SinkState) (whole front : List ℕ) → Begun whole front
+    → ((y : List ℕ) → AppendsPrefix b.written n.written (front ++ y)) → AppendsPrefix b.written n.written whole
 prefix_begun b n whole front is p = subst (λ (t : List ℕ). AppendsPrefix b.written n.written t) (sym is.1) (p is.0)
 
 -- the texts left, and the turns were made
@@ -72,7 +74,8 @@ module _ (states : ℕ → State) (lines : ℕ → List ℕ) (report : List ℕ)
       → (which ≡ F.Console → PutOrBreaks mid.report r mid.told) → (which ≡ F.Report → r ≡ mid.report)
       → LeavesAndMakes {A = A} texts states (sinks b d e) (sinks mid.console r e) machine (Err which)
   leave_stopped made few machine mid r F.Console s rest same =
-      let breaks = breaks_begun s.1.0 b mid.console _ _ (shown_grows (made + 1) (omega (arith, few))) (breaks_sent s.1.0 b mid.console _ s.1.1) in
+      let breaks = breaks_begun s.1.0 b mid.console _ _ (shown_grows (made + 1) (omega (arith, few)))
+      (breaks_sent s.1.0 b mid.console _ s.1.1) in
       let tells = tells_of d mid.report r mid.told (lines made) s.2 (rest refl) in
       let stops = at_turn made s.1.0 texts.console texts.shown b mid.console machine few s.0 breaks.fails s.1.2 s.1.1.fails.within in (
         record {
@@ -81,7 +84,8 @@ module _ (states : ℕ → State) (lines : ℕ → List ℕ) (report : List ℕ)
             (made, s.1.0, breaks.fails, stops.leaves, tells, refl),
             record {
               console = (s.1.0, breaks.fails.put);
-              report = prefix_begun d r report (lines made) (told_grows made (omega (arith, few))) (λ y. prefix_tells d r (lines made) y tells);
+              report = prefix_begun d r report (lines made) (told_grows made (omega (arith, few))) (λ y.
+                  prefix_tells d r (lines made) y tells);
               dump = prefix_none e [];
             },
           );
@@ -90,7 +94,8 @@ module _ (states : ℕ → State) (lines : ℕ → List ℕ) (report : List ℕ)
         (made, s.1.0, stops),
       )
   leave_stopped made few machine mid r F.Report s rest same =
-      let breaks = breaks_begun s.1.0 d mid.report _ _ (told_grows (made + 1) (omega (arith, few))) (breaks_sent s.1.0 d mid.report _ s.1.1) in
+      let breaks = breaks_begun s.1.0 d mid.report _ _ (told_grows (made + 1) (omega (arith, few))) (breaks_sent s.1.0 d mid.report _ s.1.1)
+      in
       let shown = λ (y : List ℕ). prefix_moves b mid.console mid.shown (states (made + 1)).console y s.2 in
       let stops = at_turn made s.1.0 texts.report texts.told d mid.report machine few s.0 breaks.fails s.1.2 s.1.1.fails.within in
       rw (same refl) (
@@ -111,13 +116,17 @@ module _ (states : ℕ → State) (lines : ℕ → List ℕ) (report : List ℕ)
   leave_stopped made few machine mid r F.Dump s rest same = absurd s
 
   -- the turns were made, and then the end
-  module _ (closing : List ℕ) (is : report ≡ lines turns ++ closing) (machine : Flat) (mid now : Places) (has : HasTexts (states turns) (lines turns) machine (places b [] d []) mid) where
+  module _ (closing : List ℕ) (is : report ≡ lines turns ++ closing) (machine : Flat) (mid now : Places)
+      (has : HasTexts (states turns) (lines turns) machine (places b [] d []) mid) where
     shown_put : Put mid.console now.console mid.shown → Put b now.console (states turns).console
-    shown_put p = put_same b now.console _ _ (append-nil _) (moves_put b mid.console now.console mid.shown _ [] has.console (put_same mid.console now.console _ _ (sym (append-nil mid.shown)) p))
+    shown_put p = put_same b now.console _ _ (append-nil _) (moves_put b mid.console now.console mid.shown _ [] has.console
+        (put_same mid.console now.console _ _ (sym (append-nil mid.shown)) p))
 
-    shown_unput : BreaksSomewhere mid.console now.console mid.shown → (k : ℕ) × Breaks k b now.console (states turns).console × (length (sent (states turns).console) ≤ k)
+    shown_unput : BreaksSomewhere mid.console now.console mid.shown
+        → (k : ℕ) × Breaks k b now.console (states turns).console × (length (sent (states turns).console) ≤ k)
     shown_unput q =
-        let p = moves_unput b mid.console now.console mid.shown (states turns).console [] has.console (q.0, breaks_same q.0 mid.console now.console _ _ (sym (append-nil mid.shown)) q.1) in
+        let p = moves_unput b mid.console now.console mid.shown (states turns).console [] has.console
+        (q.0, breaks_same q.0 mid.console now.console _ _ (sym (append-nil mid.shown)) q.1) in
         (p.0, breaks_same p.0 b now.console _ _ (append-nil _) p.1, p.2)
 
     pub leave_closed : {A : Type 0} (result : Result A SinkFault) → Closes closing mid now result
@@ -126,7 +135,15 @@ module _ (states : ℕ → State) (lines : ℕ → List ℕ) (report : List ℕ)
         let console = shown_put c.0 in
         let told = put_same d now.report _ _ (sym is) (moves_put d mid.report now.report mid.told (lines turns) closing has.report c.1) in (
           record {
-            whole = (record { console = console.whole; report = told.whole; dump = appends_nothing e.written }, record { console = console.kept; report = told.kept; dump = refl });
+            whole = (
+              record { console = console.whole; report = told.whole; dump = appends_nothing e.written },
+              record {
+                console =
+                    console.kept;
+                report = told.kept;
+                dump = refl;
+              },
+            );
             fault = tt;
             sure = λ room. refl;
           },
@@ -142,7 +159,8 @@ module _ (states : ℕ → State) (lines : ℕ → List ℕ) (report : List ℕ)
               (turns, unput.0, unput.1.fails, stops.leaves, tells, refl),
               record {
                 console = (unput.0, unput.1.fails.put);
-                report = subst (λ (t : List ℕ). AppendsPrefix d.written now.report.written t) (sym is) (prefix_tells d now.report (lines turns) closing tells);
+                report = subst (λ (t : List ℕ). AppendsPrefix d.written now.report.written t) (sym is)
+                    (prefix_tells d now.report (lines turns) closing tells);
                 dump = prefix_none e [];
               },
             );
@@ -174,7 +192,8 @@ module _ (states : ℕ → State) (lines : ℕ → List ℕ) (report : List ℕ)
 -- the dump comes last
 module _ (texts : Texts) (b d c r e : SinkState) where
   -- it was put, or wasn't
-  pub leave_dumped : {A : Type 0} {a : A} → Leave (undumped texts) (sinks b d e) (sinks c r e) (Ok a) → (f : SinkState) → Put e f texts.dump → Leave texts (sinks b d e) (sinks c r f) (Ok a)
+  pub leave_dumped : {A : Type 0} {a : A} → Leave (undumped texts) (sinks b d e) (sinks c r e) (Ok a) → (f : SinkState) → Put e f texts.dump
+      → Leave texts (sinks b d e) (sinks c r f) (Ok a)
   leave_dumped l f p = record {
     whole = (
       record { console = l.whole.0.console; report = l.whole.0.report; dump = p.whole },
@@ -184,7 +203,8 @@ module _ (texts : Texts) (b d c r e : SinkState) where
     sure = λ room. refl;
   }
 
-  pub leave_undumped : {A : Type 0} {a : A} → Leave (undumped texts) (sinks b d e) (sinks c r e) (Ok a) → (f : SinkState) → BreaksSomewhere e f texts.dump
+  pub leave_undumped : {A : Type 0} {a : A} → Leave (undumped texts) (sinks b d e) (sinks c r e) (Ok a) → (f : SinkState)
+      → BreaksSomewhere e f texts.dump
       → Leave {A = A} texts (sinks b d e) (sinks c r f) (Err F.Dump)
   leave_undumped l f p =
       let holds = l.whole.0 in
@@ -203,12 +223,14 @@ module _ (texts : Texts) (b d c r e : SinkState) where
       }
 
   -- another sink failed before it
-  fault_before : (which : SinkFault) → IsSinkFault which (undumped texts) (sinks b d e) (sinks c r e) → IsSinkFault which texts (sinks b d e) (sinks c r e)
+  fault_before : (which : SinkFault) → IsSinkFault which (undumped texts) (sinks b d e) (sinks c r e)
+      → IsSinkFault which texts (sinks b d e) (sinks c r e)
   fault_before F.Console f = f
   fault_before F.Report f = f
   fault_before F.Dump f = let none = f.1.within in absurd (omega (arith, none))
 
-  leave_before : {A : Type 0} (which : SinkFault) → Leave {A = A} (undumped texts) (sinks b d e) (sinks c r e) (Err which) → Leave {A = A} texts (sinks b d e) (sinks c r e) (Err which)
+  leave_before : {A : Type 0} (which : SinkFault) → Leave {A = A} (undumped texts) (sinks b d e) (sinks c r e) (Err which)
+      → Leave {A = A} texts (sinks b d e) (sinks c r e) (Err which)
   leave_before which l = record {
     whole = tt;
     fault = (

@@ -21,11 +21,18 @@ use Rattle.mx_turns.proofs.TraceTexts.{trace_grows}
 
 -- a machine of a plan, after the turns of a run
 pub keeps_plan : (kept : KeptPlan) (f g : Flat) → IsOfPlan kept f → KeepsShape f g → IsOfPlan kept g
-keeps_plan kept f g is keeps = record { kind = keeps.kind ∙ is.kind; limit = keeps.limit ∙ is.limit; lookaside = keeps.buffer ∙ is.lookaside; modules = keeps.modules ∙ is.modules }
+keeps_plan kept f g is keeps = record {
+  kind = keeps.kind ∙ is.kind;
+  limit = keeps.limit ∙ is.limit;
+  lookaside = keeps.buffer
+      ∙ is.lookaside;
+  modules = keeps.modules ∙ is.modules;
+}
 
 -- the law of the closing lines
 abbrev pub ClosesFlat : Type 0
-ClosesFlat = (names : List (List ℕ)) (end : EndState) (options : Options) (s : State) → closing names end options s ≡ flat_closing names end options (flat s)
+ClosesFlat = (names : List (List ℕ)) (end : EndState) (options : Options) (s : State)
+    → closing names end options s ≡ flat_closing names end options (flat s)
 
 module _ (kept : KeptPlan) (options : Options) (dump : Option Dump) (steps : ℕ) (p : Schedule) (s : State) (b d e : SinkState) where
   abbrev states : ℕ → State
@@ -48,7 +55,8 @@ module _ (kept : KeptPlan) (options : Options) (dump : Option Dump) (steps : ℕ
       (g.lines ++ end, ap (λ t. t ++ end) g.notes ∙ append_assoc (lines made) g.lines end)
 
   -- a sink stopped the turns
-  pub run_stops : {A : Type 0} (machine : Flat) (mid : Places) (r : SinkState) (which : SinkFault) → RunsOrStops {A = A} states lines steps machine (places b [] d []) mid (Err which)
+  pub run_stops : {A : Type 0} (machine : Flat) (mid : Places) (r : SinkState) (which : SinkFault)
+      → RunsOrStops {A = A} states lines steps machine (places b [] d []) mid (Err which)
       → (which ≡ F.Console → PutOrBreaks mid.report r mid.told) → (which ≡ F.Report → r ≡ mid.report)
       → LeavesAndMakes {A = A} (undumped (ran kept options dump steps p s)) states (sinks b d e) (sinks mid.console r e) machine (Err which)
   run_stops machine mid r which stops rest same =
@@ -61,11 +69,13 @@ module _ (kept : KeptPlan) (options : Options) (dump : Option Dump) (steps : ℕ
   report_is law m is =
       rw is (ap (λ t. lines steps ++ t) (law kept.names (end_of (s.core.turns + steps) (states steps).core) options (states steps)))
 
-  pub run_closes : {A : Type 0} → ClosesFlat → (m : Flat) (mid now : Places) → HasTexts (states steps) (lines steps) m (places b [] d []) mid → (result : Result A SinkFault)
+  pub run_closes : {A : Type 0} → ClosesFlat → (m : Flat) (mid now : Places)
+      → HasTexts (states steps) (lines steps) m (places b [] d []) mid → (result : Result A SinkFault)
       → Closes (flat_closing kept.names (end_of (s.core.turns + steps) m.core) options m) mid now result
       → LeavesAndMakes (undumped (ran kept options dump steps p s)) states (sinks b d e) (sinks now.console now.report e) m result
   run_closes law m mid now has result closes =
-      leave_closed states lines report steps shown_grows told_grows b d e (flat_closing kept.names (end_of (s.core.turns + steps) m.core) options m) (report_is law m has.state) m mid now has result closes
+      leave_closed states lines report steps shown_grows told_grows b d e
+      (flat_closing kept.names (end_of (s.core.turns + steps) m.core) options m) (report_is law m has.state) m mid now has result closes
 
 -- a trace
 module _ (lines : Lines) (steps : ℕ) (p : Schedule) (s : State) (b d e : SinkState) where
@@ -87,15 +97,18 @@ module _ (lines : Lines) (steps : ℕ) (p : Schedule) (s : State) (b d e : SinkS
       let end = end_text (s.core.turns + steps) (turns_of steps).core in
       (g.0 ++ end, ap (λ t. t ++ end) g.1 ∙ append_assoc (told_of made) g.0 end)
 
-  pub trace_stops : {A : Type 0} (machine : Flat) (mid : Places) (r : SinkState) (which : SinkFault) → RunsOrStops {A = A} turns_of told_of steps machine (places b [] d []) mid (Err which)
+  pub trace_stops : {A : Type 0} (machine : Flat) (mid : Places) (r : SinkState) (which : SinkFault)
+      → RunsOrStops {A = A} turns_of told_of steps machine (places b [] d []) mid (Err which)
       → (which ≡ F.Console → PutOrBreaks mid.report r mid.told) → (which ≡ F.Report → r ≡ mid.report)
       → LeavesAndMakes {A = A} (traced lines steps p s) turns_of (sinks b d e) (sinks mid.console r e) machine (Err which)
   trace_stops machine mid r which stops rest same =
       leave_stopped turns_of told_of text steps seen_grows text_grows b d e stops.0 stops.1 machine mid r which stops.2 rest same
 
-  pub trace_closes : {A : Type 0} (m : Flat) (mid now : Places) → HasTexts (turns_of steps) (told_of steps) m (places b [] d []) mid → (result : Result A SinkFault)
+  pub trace_closes : {A : Type 0} (m : Flat) (mid now : Places) → HasTexts (turns_of steps) (told_of steps) m (places b [] d []) mid
+      → (result : Result A SinkFault)
       → Closes (end_text (s.core.turns + steps) m.core) mid now result
       → LeavesAndMakes (traced lines steps p s) turns_of (sinks b d e) (sinks now.console now.report e) m result
   trace_closes m mid now has result closes =
       let is : text ≡ told_of steps ++ end_text (s.core.turns + steps) m.core = rw has.state refl in
-      leave_closed turns_of told_of text steps seen_grows text_grows b d e (end_text (s.core.turns + steps) m.core) is m mid now has result closes
+      leave_closed turns_of told_of text steps seen_grows text_grows b d e (end_text (s.core.turns + steps) m.core) is m mid now has result
+      closes

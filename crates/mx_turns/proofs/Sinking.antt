@@ -1,5 +1,6 @@
 -- Texts that were put on a sink one after another, or of which one couldn't be put.
-use Rattle.std.proofs.Common.{◌≡◌, ℕ, ◌+◌, ◌<◌, ◌≤◌, List, [], ◌++◌, length, take, min, refl, sym, ap, subst, ◌∙◌, inl, inr, append_assoc, length-append, arith, Result, OnOk, Ok, Err}
+use Rattle.std.proofs.Common.{◌≡◌, ℕ, ◌+◌, ◌<◌, ◌≤◌, List, [], ◌++◌, length, take, min, refl, sym, ap, subst, ◌∙◌, inl, inr, append_assoc}
+use Rattle.std.proofs.Common.{length-append, arith, Result, OnOk, Ok, Err}
 use Rattle.std.proofs.lemmas.List.{append-nil, take-append-le, take_min}
 use Rattle.std.proofs.Math.Seq.{take-append_seam, take-append-add}
 use Rattle.mx_io.specs.Count.{Rose}
@@ -42,7 +43,8 @@ put_or {r = Ok a} p = inl (put_of p)
 put_or {r = Err e} p = inr (breaks_of p)
 
 -- what was held and then a text was put
-pub passes_end : {A E B F : Type 0} {held kept text : List ℕ} {b m n : SinkState} {a : A} {result : Result B F} → Passes {E = E} held b m kept text (Ok a) → Puts m n kept result → Puts b n (held ++ text) result
+pub passes_end : {A E B F : Type 0} {held kept text : List ℕ} {b m n : SinkState} {a : A} {result : Result B F}
+    → Passes {E = E} held b m kept text (Ok a) → Puts m n kept result → Puts b n (held ++ text) result
 passes_end {B = B} {F = F} {held} {kept} {text} {b} {m} {n} {result = result} p q =
     let w = p.whole in
     subst (λ (t : List ℕ). Puts {A = B} {E = F} b n t result) (sym w.1) (left_end (left_next (left_all b (w.0 ++ kept)) w.3) q)
@@ -86,20 +88,24 @@ breaks_more k b n x y p =
     record {
       fails = record {
         within = omega (arith, p.fails.within, both);
-        put = subst (λ (t : List ℕ). AppendsWhole b.written n.written t) (sym (take-append-le k x y (omega (arith, p.fails.within)))) p.fails.put;
+        put = subst (λ (t : List ℕ). AppendsWhole b.written n.written t) (sym (take-append-le k x y (omega (arith, p.fails.within))))
+            p.fails.put;
         rose = p.fails.rose;
       };
       tight = λ fits. p.tight (omega (arith, fits, both));
     }
 
 -- a text was added to a buffer
-pub moves_of : {A E : Type 0} {b n : SinkState} {before kept text : List ℕ} {a : A} → Adds {E = E} before b n kept text (Ok a) → Moves before b n kept text
+pub moves_of : {A E : Type 0} {b n : SinkState} {before kept text : List ℕ} {a : A} → Adds {E = E} before b n kept text (Ok a)
+    → Moves before b n kept text
 moves_of p = record { put = put_of p.left; kept = p.kept }
 
-pub moves_passes : {A E : Type 0} {before after text : List ℕ} {b n : SinkState} {a : A} → Passes {E = E} before b n after text (Ok a) → length after < piece_bytes → Moves before b n after text
+pub moves_passes : {A E : Type 0} {before after text : List ℕ} {b n : SinkState} {a : A} → Passes {E = E} before b n after text (Ok a)
+    → length after < piece_bytes → Moves before b n after text
 moves_passes {before = before} {after = after} {text = text} {b = b} {n = n} p few =
     let w = p.whole in
-    let gone : sent (before ++ text) ≡ w.0 = ap sent w.1 ∙ sent_behind w.0 after w.2.0 w.2.1 ∙ ap (λ t. w.0 ++ t) (sent_short after few) ∙ append-nil w.0 in
+    let gone : sent (before ++ text) ≡ w.0 = ap sent w.1 ∙ sent_behind w.0 after w.2.0 w.2.1 ∙ ap (λ t. w.0 ++ t) (sent_short after few)
+    ∙ append-nil w.0 in
     let left : held (before ++ text) ≡ after = ap held w.1 ∙ held_behind w.0 after w.2.0 w.2.1 ∙ held_short after few in
     record { put = put_same b n w.0 (sent (before ++ text)) (sym gone) (put_of w.3); kept = sym left }
 

@@ -1,6 +1,8 @@
 -- The texts of a run, counted and not written.
 -- The rules: docs/COMMANDS.md, "The mill".
-use Rattle.std.specs.Prelude.{◌≡◌, Bool, true, false, length, count_by}
+use Rattle.std.specs.Prelude.{◌≡◌, ℕ, ◌+◌, ◌*◌, ◌^◌, ◌<◌, ◌≤◌, Bool, true, false, length, count_by, option_to_list}
+use Rattle.mx_words.specs.Limits.{most_written}
+use Rattle.mx_model.specs.Events.{Events}
 use Rattle.mx_model.specs.State.{State, Flat, flat}
 use Rattle.mx_model.specs.declared.values.Note.{Note}
 use Rattle.mx_model.specs.declared.values.Note.TheVariants as N
@@ -27,3 +29,25 @@ tally_of s = record {
 pub record IsCounted (s : State) (machine : Flat) (tally : Tally) : Type 0 where
   pub state : machine ≡ flat s
   pub counts : tally ≡ tally_of s
+
+-- a tally with what a turn adds, below 2^63 each
+pub record IsSum (old : Tally) (events : Events) (new : Tally) : Type 0 where
+  pub bytes : old.bytes < 2 ^ 63 → new.bytes ≡ old.bytes + length events.bytes
+  pub faults : old.faults < 2 ^ 63 →
+      new.faults ≡ old.faults + count_by is_fault (option_to_list events.note)
+  pub exits : old.exits < 2 ^ 63 →
+      new.exits ≡ old.exits + count_by is_exit (option_to_list events.note)
+  pub few_bytes : new.bytes ≤ old.bytes + most_written
+  pub few_faults : new.faults ≤ old.faults + 1
+  pub few_exits : new.exits ≤ old.exits + 1
+
+-- the same after so many turns, with what they come to at most
+pub record IsFewCounted (made : ℕ) (s : State) (machine : Flat) (tally : Tally) : Type 0 where
+  pub counted : IsCounted s machine tally
+  pub bytes : tally.bytes ≤ 4096 * made
+  pub faults : tally.faults ≤ made
+  pub exits : tally.exits ≤ made
+
+-- where these are few enough for the counts
+abbrev pub IsTallied : ℕ → State → Flat → Tally → Type 0
+IsTallied made s machine tally = made < 2 ^ 40 → IsFewCounted made s machine tally

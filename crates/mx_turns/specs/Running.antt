@@ -1,5 +1,6 @@
 -- A run whose texts leave through buffers: what holds between two turns, and what holds where a sink failed.
-use Rattle.std.specs.Prelude.{◌≡◌, ℕ, false, ◌+◌, ◌/◌, ◌%◌, ◌<◌, ◌≤◌, ◌⊎◌, List, [], ◌++◌, length, drop, option_to_list, Option, Some, None, Result, Ok, Err, OnOk, if◌then◌else◌}
+use Rattle.std.specs.Prelude.{◌≡◌, ℕ, false, ◌+◌, ◌/◌, ◌%◌, ◌<◌, ◌≤◌, ◌⊎◌, List, [], ◌++◌, length, drop, option_to_list, Option, Some, None}
+use Rattle.std.specs.Prelude.{Result, Ok, Err, OnOk, if◌then◌else◌}
 use Rattle.mx_io.specs.Texts.{AppendsWhole}
 use Rattle.mx_io.specs.Sink.{SinkState}
 -- whether a turn of a kind can add something to the texts or halt its hart

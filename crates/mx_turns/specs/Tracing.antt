@@ -1,8 +1,6 @@
 -- The texts of a trace: a line for each turn of a run, from a step on.
 -- The rules: docs/COMMANDS.md, "The trace".
 use Rattle.std.specs.Prelude.{ℕ, zero, suc, ◌+◌, Bool, true, false, ◌&&◌, nat_lt, if◌then◌else◌, List, [], ◌++◌, length, Option, Some, None}
-use Rattle.mx_machine.specs.declared.views.HartStatus.{HartStatus}
-use Rattle.mx_machine.specs.declared.views.HartStatus.TheVariants as V
 use Rattle.mx_machine.specs.Readings.{status_told}
 use Rattle.mx_laws.specs.Standing.{standing_inst}
 use Rattle.mx_model.specs.declared.values.Note.{Note}
@@ -12,6 +10,7 @@ use Rattle.mx_model.specs.Run.{Schedule, flat_made, hart_of, is_stopped, made_of
 use Rattle.mx_model.specs.Turn.{Made}
 use Rattle.mx_model.specs.State.{Core, Flat, State, hart_at}
 use Rattle.mx_report.specs.Lines.{end_line}
+use Rattle.mx_snapshot.specs.Rules.{is_waiting}
 use Rattle.mx_trace.specs.Did.{Deed, did_line}
 use Rattle.mx_trace.specs.declared.did.Held.{Held}
 use Rattle.mx_trace.specs.Lines.{turn_line}
@@ -30,12 +29,6 @@ seen_of r c h = record {
 
 abbrev pub seen_at : Reads → Core → ℕ → Option Seen
 seen_at r c h = if nat_lt h (length c.harts) then Some (seen_of r c h) else None
-
--- whether a hart waits on a call that it announced
-abbrev pub is_waiting : HartStatus → Bool
-is_waiting V.Running = false
-is_waiting V.Waiting = true
-is_waiting V.Halted = false
 
 -- what is held of a hart, where that is asked and there is such a hart
 abbrev pub held_of : Core → ℕ → Held

@@ -1,17 +1,20 @@
 //! The turns of a run that writes nothing: what its texts come to is counted. No call takes memory.
 
-ghost use Rattle.std.specs.Prelude.{◌≡◌, ◌+◌, ◌-◌, ◌*◌, ◌<◌, ◌≤◌, ◌^◌, length, count_by, option_to_list};
-ghost use Rattle.mx_words.specs.Limits.{most_bytes};
+ghost use Rattle.std.specs.Prelude.{◌≡◌, ◌+◌, ◌-◌, ◌<◌, ◌≤◌, ◌^◌, count_by, option_to_list};
 ghost use Rattle.mx_any.specs.Machines.{meaning};
 ghost use Rattle.mx_model.specs.Run.{run};
 ghost use Rattle.mx_model.specs.State.{State, flat};
-ghost use Rattle.mx_turns.specs.Counting.{IsCounted, is_exit, is_fault};
+ghost use Rattle.mx_turns.specs.Counting.{IsCounted, IsSum, IsTallied, is_exit, is_fault};
 ghost use Rattle.mx_turns.specs.Running.{HasTurns, IsNew, schedule_of};
 
-use crate::pace::{Schedule, begin, later, next_hart};
+use crate::each::each;
+use crate::fault::SinkFault;
+use crate::pace::{Schedule, begin};
+use crate::rows::{Row, Rows, make_rows};
 use mx_any::AnyMachine;
 use mx_machine::{Machine, machine_is_valid};
 use mx_model::{Events, Note};
+use mx_report::Tail;
 use mx_table::PermTables;
 
 /// What the texts of a run come to.
@@ -25,7 +28,8 @@ pub struct Tally {
     pub exits: u64,
 }
 
-/// Makes the turns of a run, at most so many, and counts what they add. The machine made no turn that told anything before; the
+/// Makes the turns of a run, at most so many, and counts what they add. The machine made no turn that told anything
+/// before; the
 /// schedule ends the run, or that all harts are halted.
 pub fn count_turns(steps: u32, schedule: Schedule<'_>, machine: &mut AnyMachine) -> Tally
     requires few { (meaning machine.old).core.turns + steps < 2 ^ 64 - 1 }
@@ -34,17 +38,7 @@ pub fn count_turns(steps: u32, schedule: Schedule<'_>, machine: &mut AnyMachine)
         IsCounted (run (schedule_of schedule.entry) steps s) (meaning machine.new) result }
 {
     let steps = u64::from(steps);
-    match machine {
-        AnyMachine::Segments8(machine) => count_machine(steps, schedule, machine),
-        AnyMachine::Segments32(machine) => count_machine(steps, schedule, machine),
-        AnyMachine::Segments64(machine) => count_machine(steps, schedule, machine),
-        AnyMachine::Multilevel8(machine) => count_machine(steps, schedule, machine),
-        AnyMachine::Multilevel32(machine) => count_machine(steps, schedule, machine),
-        AnyMachine::Multilevel64(machine) => count_machine(steps, schedule, machine),
-        AnyMachine::Packed8(machine) => count_machine(steps, schedule, machine),
-        AnyMachine::Packed32(machine) => count_machine(steps, schedule, machine),
-        AnyMachine::Packed64(machine) => count_machine(steps, schedule, machine),
-    }
+    each!(machine, machine => count_machine(steps, schedule, machine))
 }
 
 // The same of a machine over one kind of tables.
@@ -68,43 +62,64 @@ fn count_machine<T: PermTables, const N: usize>(
     if machine.all_halted() {
         return tally;
     }
-    let mut events = Events::new();
-    let mut pace = begin(schedule, machine.harts(), machine.steps());
-    let mut made = 0;
-    'turns: while made < steps {
-        let Some((hart, most)) = next_hart(&pace, steps - made) else {
-            return tally;
-        };
-        let stretch = machine.run_on(hart, most, &mut events);
-        made += stretch.ran + 1;
-        pace = later(pace, stretch.ran + 1);
-        tally = counted(tally, &events);
-        if machine.all_halted() {
-            return tally;
-        }
-    }
+    let start = begin(schedule, machine.harts(), machine.steps());
+    let mut shown = Tail::new();
+    let mut told = Tail::new();
+    // What is counted can't fail.
+    let _ = make_rows(
+        steps,
+        start,
+        &Counting,
+        machine,
+        &mut shown,
+        &mut (),
+        &mut told,
+        &mut tally,
+    );
     tally
+}
+
+/// Turns are counted, and nothing of them is put anywhere.
+struct Counting;
+
+impl<T: PermTables, const N: usize> Rows<Machine<T, N>, (), Tally> for Counting {
+    ghost means = { λ m. m };
+
+    ghost Stands = { λ counting p made s before m shown console told tally.
+        IsTallied made (run p made s) m tally };
+
+    ghost Stops = { λ counting p made s before m shown console told tally which. ⊥ };
+
+    #[inline(always)]
+    fn make_row(
+        &self,
+        hart: u32,
+        most: u64,
+        machine: &mut Machine<T, N>,
+        events: &mut Events,
+        _shown: &mut Tail,
+        _console: &mut (),
+        _told: &mut Tail,
+        report: &mut Tally,
+    ) -> Result<Row, SinkFault> {
+        let stretch = machine.run_on(hart, most, events);
+        *report = counted(*report, events);
+        Ok(Row {
+            turns: stretch.ran + 1,
+            halted: machine.all_halted(),
+        })
+    }
 }
 
 // A tally with what a turn adds.
 fn counted(tally: Tally, events: &Events) -> Tally
-    requires bytes { tally.bytes < 2 ^ 62 }
-    requires faults { tally.faults < 2 ^ 62 }
-    requires exits { tally.exits < 2 ^ 62 }
-    ensures bytes { result.bytes ≡ tally.bytes + length events.now.bytes }
-    ensures faults { result.faults
-        ≡ tally.faults + count_by is_fault (option_to_list events.now.note) }
-    ensures exits { result.exits
-        ≡ tally.exits + count_by is_exit (option_to_list events.now.note) }
-    ensures few_bytes { result.bytes ≤ tally.bytes + most_bytes }
-    ensures few_faults { result.faults ≤ tally.faults + 1 }
-    ensures few_exits { result.exits ≤ tally.exits + 1 }
+    ensures { IsSum tally events.now result }
 {
     let (faults, exits) = noted(events.note());
     Tally {
-        bytes: tally.bytes + u64::from(events.len()),
-        faults: tally.faults + faults,
-        exits: tally.exits + exits,
+        bytes: tally.bytes.saturating_add(u64::from(events.len())),
+        faults: tally.faults.saturating_add(faults),
+        exits: tally.exits.saturating_add(exits),
     }
 }
 

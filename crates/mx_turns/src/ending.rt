@@ -3,6 +3,8 @@
 ghost use Rattle.std.specs.Prelude.{◌≡◌, ◌++◌, length, map};
 ghost use Rattle.mx_io.specs.Sink.{Puts};
 ghost use Rattle.mx_any.specs.Machines.{meaning};
+ghost use Rattle.mx_model.specs.Run.{all_halted};
+ghost use Rattle.mx_model.specs.State.{Core};
 ghost use Rattle.mx_report.specs.Texts.{flat_closing};
 ghost use Rattle.mx_snapshot.specs.Kept.{IsOfPlan};
 ghost use Rattle.mx_turns.specs.Runs.{dumped, end_of};
@@ -17,7 +19,8 @@ use mx_report::{EndState, Options, Tail, put_closing};
 use mx_snapshot::{Kept, ram_bytes, write_snapshot};
 use mx_table::PermTables;
 
-/// Ends a run that was to reach so many turns: what the buffers hold leaves, and after it the report's closing lines. Where the
+/// Ends a run that was to reach so many turns: what the buffers hold leaves, and after it the report's closing lines.
+/// Where the
 /// console fails, what the report's buffer holds leaves and nothing else.
 pub(crate) fn end_run<T: PermTables, const N: usize, C: Sink, R: Sink>(
     target: u64,
@@ -64,7 +67,7 @@ fn put_closing_lines<T: PermTables, const N: usize, R: Sink>(
         (told.old ++ flat_closing kept.now.names (end_of target machine.now.core) options machine.now)
         result }
 {
-    let end = end_of(target, machine);
+    let end = end_of(target, machine.steps(), machine.all_halted());
     put_closing(
         told,
         report,
@@ -78,27 +81,22 @@ fn put_closing_lines<T: PermTables, const N: usize, R: Sink>(
     told.end(report)
 }
 
-// Why a run ended that was to reach so many turns.
-fn end_of<T: PermTables, const N: usize>(target: u64, machine: &Machine<T, N>) -> EndState
-    ensures { result ≡ end_of target machine.now.core }
-{
-    if machine.all_halted() {
-        EndState::Halted
-    } else if machine.steps() == target {
-        EndState::Steps
-    } else {
-        EndState::Schedule
-    }
-}
-
-/// Why a run over a machine of any kind ended that was to reach so many turns: `Halted` where all harts are halted, otherwise
+/// Why a run over a machine of any kind ended that was to reach so many turns: `Halted` where all harts are halted,
+/// otherwise
 /// `Steps` where the machine made just so many, and otherwise `Schedule`.
 pub fn end_of_any(target: u64, machine: &AnyMachine) -> EndState
     ensures { result ≡ end_of target (meaning machine.now).core }
 {
-    if machine.all_halted() {
+    end_of(target, machine.steps(), machine.all_halted())
+}
+
+// Why a run ended that was to reach so many turns, by those made and whether all harts are halted.
+fn end_of(target: u64, made: u64, halted: bool) -> EndState
+    ensures { (c : Core) → made ≡ c.turns → halted ≡ all_halted c → result ≡ end_of target c }
+{
+    if halted {
         EndState::Halted
-    } else if machine.steps() == target {
+    } else if made == target {
         EndState::Steps
     } else {
         EndState::Schedule

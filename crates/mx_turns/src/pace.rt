@@ -19,7 +19,8 @@ pub enum Schedule<'a> {
 pub enum Pace<'a> {
     /// The only hart makes all turns.
     Alone,
-    /// The quantum, the number of the last hart, the hart whose turn is next, and how many turns of its quantum are left.
+    /// The quantum, the number of the last hart, the hart whose turn is next, and how many turns of its quantum are
+    /// left.
     Quantum(u64, u32, u32, u64),
     /// The bytes of the turns to come.
     Bytes(&'a [u8]),

@@ -7,6 +7,7 @@ ghost use Rattle.mx_snapshot.specs.Kept.{IsOfPlan};
 ghost use Rattle.mx_turns.specs.Ends.{Leave, MakesTurns, sinks};
 ghost use Rattle.mx_turns.specs.Running.{HasTurns, IsNew, RunsOut, states_of, texts_of};
 
+use crate::each::each;
 use crate::ending::{end_run, put_dump};
 use crate::fault::SinkFault;
 use crate::task::Task;
@@ -18,8 +19,10 @@ use mx_report::{Tail, closing_of_a_flat_state};
 use mx_snapshot::Kept;
 use mx_table::PermTables;
 
-/// Makes the turns of a run and writes its texts: console and notes' lines during the turns, then the closing lines, and last the
-/// dump. The first sink that fails ends the run: no turn is made after it. Where that is the console, what of the report was told
+/// Makes the turns of a run and writes its texts: console and notes' lines during the turns, then the closing lines,
+/// and last the
+/// dump. The first sink that fails ends the run: no turn is made after it. Where that is the console, what of the
+/// report was told
 /// before still leaves.
 ///
 /// The names are those of the plan's modules, in order. Takes no memory.
@@ -71,23 +74,7 @@ fn run_any<C: Sink, R: Sink>(
     ensures { RunsOut kept.now task.now (meaning machine.old) (meaning machine.new)
         (C.state console.old) (C.state console.new) (R.state report.old) (R.state report.new) result }
 {
-    match machine {
-        AnyMachine::Segments8(machine) => run_machine(task, kept, names, machine, console, report),
-        AnyMachine::Segments32(machine) => run_machine(task, kept, names, machine, console, report),
-        AnyMachine::Segments64(machine) => run_machine(task, kept, names, machine, console, report),
-        AnyMachine::Multilevel8(machine) => {
-            run_machine(task, kept, names, machine, console, report)
-        }
-        AnyMachine::Multilevel32(machine) => {
-            run_machine(task, kept, names, machine, console, report)
-        }
-        AnyMachine::Multilevel64(machine) => {
-            run_machine(task, kept, names, machine, console, report)
-        }
-        AnyMachine::Packed8(machine) => run_machine(task, kept, names, machine, console, report),
-        AnyMachine::Packed32(machine) => run_machine(task, kept, names, machine, console, report),
-        AnyMachine::Packed64(machine) => run_machine(task, kept, names, machine, console, report),
-    }
+    each!(machine, machine => run_machine(task, kept, names, machine, console, report))
 }
 
 // Makes the turns of a machine, and writes console and report.

@@ -1,6 +1,7 @@
 //! A trace: the turns of a run with a line for each. No call takes memory.
 
-ghost use Rattle.std.specs.Prelude.{◌≡◌, ℕ, true, false, ◌&&◌, ◌+◌, ◌-◌, ◌++◌, ◌<◌, ◌≤◌, ◌^◌, ◌⊎◌, length, nat_lt, None, Some, IfSome, OnOk};
+ghost use Rattle.std.specs.Prelude.{◌≡◌, ℕ, true, false, ◌&&◌, ◌+◌, ◌-◌, ◌++◌, ◌<◌, ◌≤◌, ◌^◌, ◌⊎◌, length, nat_lt};
+ghost use Rattle.std.specs.Prelude.{None, Some, IfSome, OnOk};
 ghost use Rattle.mx_isa.specs.Ranges.{IsValid};
 ghost use Rattle.mx_io.specs.Sink.{Puts, SinkState};
 ghost use Rattle.mx_any.specs.Machines.{meaning};
@@ -9,13 +10,18 @@ ghost use Rattle.mx_model.specs.Run.{flat_made, flat_turn, run};
 ghost use Rattle.mx_model.specs.State.{State, flat};
 ghost use Rattle.mx_tail.specs.Tail.{Passes, piece_bytes};
 ghost use Rattle.mx_turns.specs.Ends.{Leave, MakesTurns, sinks};
-ghost use Rattle.mx_turns.specs.Running.{schedule_of, told_by, Begins, Closes, HasTexts, HasTurns, IsNew, Places, RunsOrStops, ShowsOrStops, places};
-ghost use Rattle.mx_turns.specs.Tracing.{end_text, flat_line_from, held_of, is_waiting, line_text, seen_at, seen_of, trace, traced};
+ghost use Rattle.mx_turns.specs.Running.{schedule_of, told_by, Begins, Closes, HasTexts, HasTurns, IsNew, Places};
+ghost use Rattle.mx_turns.specs.Running.{RunsOrStops, ShowsOrStops, StopsAt, places};
+ghost use Rattle.mx_snapshot.specs.Rules.{is_waiting};
+ghost use Rattle.mx_turns.specs.Tracing.{end_text, flat_line_from, held_of, line_text, seen_at, seen_of};
+ghost use Rattle.mx_turns.specs.Tracing.{trace, traced};
 ghost use Rattle.mx_trace.specs.Did.{deed};
 
+use crate::each::each;
 use crate::ending::end_of_any;
 use crate::fault::SinkFault;
-use crate::pace::{Schedule, begin, later, next_hart};
+use crate::pace::{Schedule, begin};
+use crate::rows::{Row, Rows, make_rows};
 use crate::turns::{Telling, make_turns};
 use mx_any::{AnyMachine, any_machine_is_valid};
 use mx_io::{Failed, Sink};
@@ -44,7 +50,8 @@ pub struct Lines {
     pub effects: bool,
 }
 
-/// Makes the turns of a run, and writes the console's bytes, a line for each turn from a step on, and the end line. The first sink
+/// Makes the turns of a run, and writes the console's bytes, a line for each turn from a step on, and the end line. The
+/// first sink
 /// that fails ends it, as it ends a run: no turn is made after it.
 pub fn make_trace<C: Sink, R: Sink>(
     task: &TraceTask<'_>,
@@ -140,53 +147,7 @@ fn skip_turns<C: Sink, R: Sink>(
         (places (C.state console.new) shown.new (R.state report.new) told.new) result }
 {
     let telling = Telling::Nothing;
-    match machine {
-        AnyMachine::Segments8(machine) => {
-            make_turns(
-                steps, schedule, telling, machine, shown, console, told, report,
-            )
-        }
-        AnyMachine::Segments32(machine) => {
-            make_turns(
-                steps, schedule, telling, machine, shown, console, told, report,
-            )
-        }
-        AnyMachine::Segments64(machine) => {
-            make_turns(
-                steps, schedule, telling, machine, shown, console, told, report,
-            )
-        }
-        AnyMachine::Multilevel8(machine) => {
-            make_turns(
-                steps, schedule, telling, machine, shown, console, told, report,
-            )
-        }
-        AnyMachine::Multilevel32(machine) => {
-            make_turns(
-                steps, schedule, telling, machine, shown, console, told, report,
-            )
-        }
-        AnyMachine::Multilevel64(machine) => {
-            make_turns(
-                steps, schedule, telling, machine, shown, console, told, report,
-            )
-        }
-        AnyMachine::Packed8(machine) => {
-            make_turns(
-                steps, schedule, telling, machine, shown, console, told, report,
-            )
-        }
-        AnyMachine::Packed32(machine) => {
-            make_turns(
-                steps, schedule, telling, machine, shown, console, told, report,
-            )
-        }
-        AnyMachine::Packed64(machine) => {
-            make_turns(
-                steps, schedule, telling, machine, shown, console, told, report,
-            )
-        }
-    }
+    each!(machine, machine => make_turns(steps, schedule, telling, machine, shown, console, told, report))
 }
 
 // Makes turns, each with its line where it has one.
@@ -215,30 +176,41 @@ fn trace_turns<C: Sink, R: Sink>(
     if machine.all_halted() {
         return Ok(());
     }
-    let mut events = Events::new();
-    let mut pace = begin(schedule, machine.harts(), machine.steps());
-    let mut made = 0;
-    'turns: while made < steps {
-        let Some((hart, _)) = next_hart(&pace, 1) else {
-            return Ok(());
-        };
-        trace_turn(
-            lines,
-            hart,
-            machine,
-            &mut events,
-            shown,
-            console,
-            told,
-            report,
-        )?;
-        made += 1;
-        pace = later(pace, 1);
-        if machine.all_halted() {
-            return Ok(());
+    let start = begin(schedule, machine.harts(), machine.steps());
+    make_rows(steps, start, &lines, machine, shown, console, told, report)
+}
+
+impl<C: Sink, R: Sink> Rows<AnyMachine, C, R> for Lines {
+    ghost means = { meaning };
+
+    ghost Stands = { λ lines p made s before m shown console told report.
+        HasTexts (run p made s) (trace p lines made s) (meaning m) before
+        (places (C.state console) shown (R.state report) told) };
+
+    ghost Stops = { λ lines p made s before m shown console told report.
+        StopsAt (λ n. run p n s) (λ n. trace p lines n s) made (meaning m) before
+        (places (C.state console) shown (R.state report) told) };
+
+    #[inline(always)]
+    fn make_row(
+        &self,
+        hart: u32,
+        _most: u64,
+        machine: &mut AnyMachine,
+        events: &mut Events,
+        shown: &mut Tail,
+        console: &mut C,
+        told: &mut Tail,
+        report: &mut R,
+    ) -> Result<Row, SinkFault> {
+        match trace_turn(*self, hart, machine, events, shown, console, told, report) {
+            Ok(()) => Ok(Row {
+                turns: 1,
+                halted: machine.all_halted(),
+            }),
+            Err(fault) => Err(fault),
         }
     }
-    Ok(())
 }
 
 // Makes one turn, and puts what it adds: its console bytes, and its lines where it has any.

@@ -4,10 +4,12 @@ ghost use Rattle.std.specs.Prelude.{◌≡◌, ◌+◌, ◌-◌, ◌^◌, ◌<�
 ghost use Rattle.mx_model.specs.Run.{all_halted, run};
 ghost use Rattle.mx_model.specs.State.{State, flat};
 ghost use Rattle.mx_tail.specs.Tail.{Passes, piece_bytes};
-ghost use Rattle.mx_turns.specs.Running.{schedule_of, HasTurns, Begins, KeepsShape, RunsOrStops, ShowsOrStops, adds_by, told_by, may_tell, places};
+ghost use Rattle.mx_turns.specs.Running.{schedule_of, HasRun, HasTurns, Begins, KeepsShape, RunsOrStops, ShowsOrStops};
+ghost use Rattle.mx_turns.specs.Running.{StopsAt, adds_by, told_by, may_tell, places};
 
 use crate::fault::SinkFault;
-use crate::pace::{Schedule, begin, later, next_hart};
+use crate::pace::{Schedule, begin};
+use crate::rows::{Row, Rows, make_rows};
 use mx_io::{Failed, Sink};
 use mx_machine::{Machine, machine_is_valid};
 use mx_model::{Events, Note, TurnKind};
@@ -23,7 +25,8 @@ pub(crate) enum Telling {
     Nothing,
 }
 
-/// Makes at most `steps` turns, until the schedule ends or all harts are halted. What the turns add leaves through the buffers.
+/// Makes at most `steps` turns, until the schedule ends or all harts are halted. What the turns add leaves through the
+/// buffers.
 pub(crate) fn make_turns<T: PermTables, const N: usize, C: Sink, R: Sink>(
     steps: u64,
     schedule: Schedule<'_>,
@@ -49,25 +52,48 @@ pub(crate) fn make_turns<T: PermTables, const N: usize, C: Sink, R: Sink>(
     if machine.all_halted() {
         return Ok(());
     }
-    let mut events = Events::new();
-    let mut pace = begin(schedule, machine.harts(), machine.steps());
-    let mut made = 0;
-    'turns: while made < steps {
-        let Some((hart, most)) = next_hart(&pace, steps - made) else {
-            return Ok(());
-        };
-        let stretch = machine.run_on(hart, most, &mut events);
-        made += stretch.ran + 1;
-        pace = later(pace, stretch.ran + 1);
+    let start = begin(schedule, machine.harts(), machine.steps());
+    make_rows(
+        steps, start, &telling, machine, shown, console, told, report,
+    )
+}
+
+impl<T: PermTables, const N: usize, C: Sink, R: Sink> Rows<Machine<T, N>, C, R> for Telling {
+    ghost means = { λ m. m };
+
+    ghost Stands = { λ telling p made s before m shown console told report.
+        HasRun telling (run p made s) m before (places (C.state console) shown (R.state report) told) };
+
+    ghost Stops = { λ telling p made s before m shown console told report.
+        StopsAt (λ n. run p n s) (λ n. told_by telling (run p n s)) made m before
+        (places (C.state console) shown (R.state report) told) };
+
+    #[inline(always)]
+    fn make_row(
+        &self,
+        hart: u32,
+        most: u64,
+        machine: &mut Machine<T, N>,
+        events: &mut Events,
+        shown: &mut Tail,
+        console: &mut C,
+        told: &mut Tail,
+        report: &mut R,
+    ) -> Result<Row, SinkFault> {
+        let stretch = machine.run_on(hart, most, events);
+        let turns = stretch.ran + 1;
         // Nearly all turns add nothing and halt no hart: of these nothing but their kind is looked at.
         if !may_tell(stretch.last) {
-            continue;
+            return Ok(Row {
+                turns,
+                halted: false,
+            });
         }
-        if end_turn(machine, &events, telling, shown, console, told, report)? {
-            return Ok(());
+        match end_turn(machine, events, *self, shown, console, told, report) {
+            Ok(halted) => Ok(Row { turns, halted }),
+            Err(fault) => Err(fault),
         }
     }
-    Ok(())
 }
 
 // Whether a turn of a kind can add something or halt its hart.

@@ -1,5 +1,6 @@
 -- Lists that are read from place to place until none is left.
-use Rattle.std.proofs.Common.{◌≡◌, ℕ, zero, suc, ◌+◌, ◌<◌, ◌≤◌, Bool, true, false, ◌&&◌, cond, List, [], ◌∷◌, length, drop, slice_get, refl, sym, ◌∙◌, ap, arith, add-one, Some, None}
+use Rattle.std.proofs.Common.{◌≡◌, ℕ, zero, suc, ◌+◌, ◌<◌, ◌≤◌, Bool, true, false, ◌&&◌, cond, List, [], ◌∷◌, length, drop, slice_get, refl}
+use Rattle.std.proofs.Common.{sym, ◌∙◌, ap, arith, add-one, Some, None}
 use Rattle.std.specs.List.{list_all}
 use Rattle.std.specs.Option.{option_map}
 use Rattle.mx_model.specs.declared.values.Gate.{Gate}
@@ -27,13 +28,15 @@ pub record IsLeft (gates : List Gate) (d word i : ℕ) : Type 0 where
   pub within : i ≤ length gates
 
 module _ (gates : List Gate) (d word i : ℕ) (k : IsLeft gates d word i) where
-  next-gate : (g : Gate) → Some g ≡ slice_get gates i → gate_at gates d word ≡ cond (is_at d word g) (Some g) (gate_at (drop (suc i) gates) d word)
+  next-gate : (g : Gate) → Some g ≡ slice_get gates i → gate_at gates d word
+      ≡ cond (is_at d word g) (Some g) (gate_at (drop (suc i) gates) d word)
   next-gate g e = sym k.found ∙ ap (λ (gs : List Gate). gate_at gs d word) (some-drop gates i g e)
 
   pub target-here : (g : Gate) → Some g ≡ slice_get gates i → is_at d word g ≡ true →
       Some g.target ≡ option_map (λ (x : Gate). x.target) (gate_at gates d word)
   target-here g e t =
-      sym (ap (option_map (λ (x : Gate). x.target)) (next-gate g e ∙ ap (λ (b : Bool). cond b (Some g) (gate_at (drop (suc i) gates) d word)) t))
+      sym (ap (option_map (λ (x : Gate). x.target)) (next-gate g e
+      ∙ ap (λ (b : Bool). cond b (Some g) (gate_at (drop (suc i) gates) d word)) t))
 
   pub left-more : (g : Gate) → Some g ≡ slice_get gates i → is_at d word g ≡ false → IsLeft gates d word (i + 1)
   left-more g e t =
@@ -45,7 +48,8 @@ module _ (gates : List Gate) (d word i : ℕ) (k : IsLeft gates d word i) where
       }
 
   pub target-none : None ≡ slice_get gates i → None ≡ option_map (λ (x : Gate). x.target) (gate_at gates d word)
-  target-none e = sym (ap (option_map (λ (x : Gate). x.target)) (sym k.found ∙ ap (λ (gs : List Gate). gate_at gs d word) (none-drop gates i e)))
+  target-none e = sym (ap (option_map (λ (x : Gate). x.target)) (sym k.found
+      ∙ ap (λ (gs : List Gate). gate_at gs d word) (none-drop gates i e)))
 
 -- gates up to place i pass a test
 pub record HavePassed (test : Gate → Bool) (gates : List Gate) (i : ℕ) : Type 0 where

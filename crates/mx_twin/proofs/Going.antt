@@ -1,5 +1,6 @@
 -- A twin run under way.
-use Rattle.std.proofs.Common.{◌≡◌, ℕ, suc, ◌+◌, ◌-◌, ◌/◌, ◌%◌, ◌<◌, ◌≤◌, Bool, true, false, length, refl, sym, ◌∙◌, ap, subst, arith, if◌then◌else◌, Option, Some, None}
+use Rattle.std.proofs.Common.{◌≡◌, ℕ, suc, ◌+◌, ◌-◌, ◌/◌, ◌%◌, ◌<◌, ◌≤◌, Bool, true, false, length, refl, sym, ◌∙◌, ap, subst, arith}
+use Rattle.std.proofs.Common.{if◌then◌else◌, Option, Some, None}
 use Rattle.mx_model.specs.declared.values.TurnKind.{TurnKind}
 use Rattle.mx_model.specs.declared.values.TurnKind.TheVariants as T
 use Rattle.mx_model.specs.Reads.{flat_reads}
@@ -27,7 +28,8 @@ pub record IsGoing (d quantum steps harts : ℕ) (f g : Flat) (made : ℕ) (u v 
   pub second : v.core.turns ≡ g.core.turns + made
   pub knows : Knows d u v known
 
-pub going-start : (d quantum steps : ℕ) (f g : Flat) → ArePair f g → AreAlike f g → IsModule (length f.core.modules) d → fails d f g ≡ false →
+pub going-start : (d quantum steps : ℕ) (f g : Flat) → ArePair f g → AreAlike f g → IsModule (length f.core.modules) d
+    → fails d f g ≡ false →
     IsGoing d quantum steps (length f.core.harts) f g 0 f g (any_compared d f g)
 going-start d quantum steps f g p a m n = record {
   within = omega arith;
@@ -55,7 +57,8 @@ few-turns t s made steps e l few = omega arith
 pub hart-below : (a n harts all : ℕ) → n ≡ harts → harts ≡ all → 1 ≤ all → a % harts < n
 hart-below a n harts all e f some = omega arith
 
-module _ (d quantum steps harts : ℕ) (f g : Flat) (made : ℕ) (u v : Flat) (known : Bool) (k : IsGoing d quantum steps harts f g made u v known) where
+module _ (d quantum steps harts : ℕ) (f g : Flat) (made : ℕ) (u v : Flat) (known : Bool)
+    (k : IsGoing d quantum steps harts f g made u v known) where
   abbrev hart : ℕ
   hart = next_hart quantum made u
 
@@ -117,7 +120,8 @@ module _ (d quantum steps harts : ℕ) (f g : Flat) (made : ℕ) (u v : Flat) (k
         (subst (λ (z : Flat). IsGoing d quantum steps harts f g (made + 1) (flat_turn u hart) z still) (sym second-is)
         (going-on l still (subst (λ (z : Option Bool). IsRight d (flat_turn u hart) (flat_turn v hart) z) i right-is)))
 
-    pub going-end : made < steps → o ≡ None → (kind : TurnKind) → kind ≡ flat_kind u h → E.Ended (made + 1) h kind ≡ twins d quantum steps f g
+    pub going-end : made < steps → o ≡ None → (kind : TurnKind) → kind ≡ flat_kind u h
+        → E.Ended (made + 1) h kind ≡ twins d quantum steps f g
     going-end l i kind q =
         ap (λ (z : TurnKind). E.Ended (made + 1) h z) q
         ∙ ap (λ (z : ℕ). E.Ended (made + 1) z (flat_kind u z)) (sym here)

@@ -5,3 +5,4 @@ pub mod PairLaws
 pub mod TurnRows
 pub mod Going
 pub mod Watching
+mod Examples

@@ -1,5 +1,7 @@
 -- Words that a domain sees alike, from run to run.
-use Rattle.std.proofs.Common.{◌≡◌, ℕ, zero, suc, ◌+◌, ◌-◌, ◌*◌, ◌/◌, ◌%◌, ◌<◌, ◌≤◌, ◌⊎◌, inl, inr, Bool, true, false, not, ◌==◌, ◌&&◌, ◌||◌, nat_eq, List, length, get_or, drop, slice_range, refl, sym, ◌∙◌, ap, arith, eq-eqb, lit<, get_or-take, get_or-drop, length-take, length-drop, ext_get_or}
+use Rattle.std.proofs.Common.{◌≡◌, ℕ, zero, suc, ◌+◌, ◌-◌, ◌*◌, ◌/◌, ◌%◌, ◌<◌, ◌≤◌, ◌⊎◌, inl, inr, Bool, true, false, not, ◌==◌, ◌&&◌, ◌||◌}
+use Rattle.std.proofs.Common.{nat_eq, List, length, get_or, drop, slice_range, refl, sym, ◌∙◌, ap, arith, eq-eqb, lit<, get_or-take}
+use Rattle.std.proofs.Common.{get_or-drop, length-take, length-drop, ext_get_or}
 use Rattle.std.specs.Cmp.Lexicographic.{bytes_decides, pointwise}
 use Rattle.std.specs.List.{list_all, range_with_len}
 use Rattle.std.proofs.lemmas.Bool.{and_from, and_parts, cases_lt, false_from_ne_true, eqb-true}
@@ -25,7 +27,8 @@ all-more test first at next l m p q = all_pass test first (next - first) (λ i l
     by i low high (inl lt) = each_passes test first (at - first) p i low (omega (arith, lt, low))
     by i low high (inr le) = each_passes test at (next - at) q i le (omega (arith, le, low, high))
 
-pub all-part : (test : ℕ → Bool) (first count at n : ℕ) → first ≤ at → at + n ≤ first + count → list_all test (range_with_len at n) ≡ false →
+pub all-part : (test : ℕ → Bool) (first count at n : ℕ) → first ≤ at → at + n ≤ first + count
+    → list_all test (range_with_len at n) ≡ false →
     list_all test (range_with_len first count) ≡ false
 all-part test first count at n low high e = false_from_ne_true (list_all test (range_with_len first count)) (λ p.
     let q = all_pass test at n (λ i l h. each_passes test first count p i (omega (arith, l, low)) (omega (arith, h, high))) in
@@ -38,7 +41,8 @@ all-missed test first count i low high e = false_from_ne_true (list_all test (ra
     let z : ⊥ = cc in z)
 
 -- a span round a word, from the word on
-pub span-alike : (f : Flat) (d at : ℕ) (s : Span) → s ≡ (flat_reads f).walk d at → length (map_in f.core.size f.maps d) ≡ f.core.size → at < f.core.size →
+pub span-alike : (f : Flat) (d at : ℕ) (s : Span) → s ≡ (flat_reads f).walk d at → length (map_in f.core.size f.maps d) ≡ f.core.size
+    → at < f.core.size →
     IsUniformRound (map_in f.core.size f.maps d) at s
 span-alike f d at s e whole l = walk_round f d at s e whole l
 
@@ -54,7 +58,8 @@ module _ (f g : Flat) (d at x y : ℕ) (p q : Perm) (a : at < x) (b : at < y)
 
     seen-as : (w : ℕ) → at ≤ w → w < next → seen w ≡ (same p q && (not (allows p A.Read) || same_word f.core g.core w))
     seen-as w l h =
-        ap (λ (z : Perm). same z ((flat_reads g).perm d w) && (not (allows z A.Read) || same_word f.core g.core w)) (one w l (omega (arith, h, low)))
+        ap (λ (z : Perm). same z ((flat_reads g).perm d w) && (not (allows z A.Read) || same_word f.core g.core w))
+        (one w l (omega (arith, h, low)))
         ∙ ap (λ (z : Perm). same p z && (not (allows p A.Read) || same_word f.core g.core w)) (other w l (omega (arith, h, high)))
 
     -- one permission, and the same bytes where it may be read
@@ -72,14 +77,16 @@ module _ (f g : Flat) (d at x y : ℕ) (p q : Perm) (a : at < x) (b : at < y)
     -- other permissions, or other bytes where it may be read
     pub run-unlike : (end : ℕ) → next ≤ end → (same p q && (not (allows p A.Read) || bytes)) ≡ false →
         list_all seen (range_with_len at (end - at)) ≡ false
-    run-unlike end l e = false_from_ne_true (list_all seen (range_with_len at (end - at))) (λ (t : list_all seen (range_with_len at (end - at)) ≡ true).
+    run-unlike end l e = false_from_ne_true (list_all seen (range_with_len at (end - at)))
+        (λ (t : list_all seen (range_with_len at (end - at)) ≡ true).
         let here : (w : ℕ) → at ≤ w → w < next → (same p q && (not (allows p A.Read) || same_word f.core g.core w)) ≡ true =
         λ w i o. sym (seen-as w i o) ∙ each_passes seen at (end - at) t w i (omega (arith, i, o, l)) in
         let first = (and_parts (same p q) _ (here at (omega arith) more)).0 in
         let whole = and_from (same p q) (not (allows p A.Read) || bytes) first (by (allows p A.Read) refl here) in
         let z : ⊥ = cc in z)
       where
-        by : (t : Bool) → allows p A.Read ≡ t → ((w : ℕ) → at ≤ w → w < next → (same p q && (not (allows p A.Read) || same_word f.core g.core w)) ≡ true) →
+        by : (t : Bool) → allows p A.Read ≡ t → ((w : ℕ) → at ≤ w → w < next
+            → (same p q && (not (allows p A.Read) || same_word f.core g.core w)) ≡ true) →
             (not t || bytes) ≡ true
         by false n here = refl
         by true n here = all_pass (same_word f.core g.core) at (next - at) (λ w i h.
@@ -108,7 +115,8 @@ word-byte c e w p (suc zero) l = eqb-true _ _ (and_parts (same_at c e w 1) _ (an
 word-byte c e w p (suc (suc zero)) l =
     eqb-true _ _ (and_parts (same_at c e w 2) _ (and_parts (same_at c e w 1) _ (and_parts (same_at c e w 0) _ p).1).1).0
 word-byte c e w p (suc (suc (suc zero))) l =
-    eqb-true _ _ (and_parts (same_at c e w 3) _ (and_parts (same_at c e w 2) _ (and_parts (same_at c e w 1) _ (and_parts (same_at c e w 0) _ p).1).1).1).0
+    eqb-true _ _ (and_parts (same_at c e w 3) _ (and_parts (same_at c e w 2) _
+    (and_parts (same_at c e w 1) _ (and_parts (same_at c e w 0) _ p).1).1).1).0
 word-byte c e w p (suc (suc (suc (suc k)))) l = absurd (let q : ⊥ = omega (arith, l) in q)
 
 module _ (c e : Core) (at n : ℕ) (first : 4 * at + 4 * n ≤ length c.ram) (second : 4 * at + 4 * n ≤ length e.ram) where

@@ -1,17 +1,17 @@
 -- Turns of one hart in two machines, and rows of them.
 use Rattle.std.proofs.Common.{◌≡◌, ℕ, zero, suc, ◌+◌, ◌/◌, ◌%◌, Bool, true, false, if◌then◌else◌, refl, sym, ◌∙◌, ap, subst, arith}
 use Rattle.mx_model.specs.declared.values.TurnKind.TheVariants as T
-use Rattle.mx_model.specs.Agreement.{agree, border, standing}
+use Rattle.mx_model.specs.Agreement.{agree, border}
 use Rattle.mx_model.specs.Checks.{is_halted}
 use Rattle.mx_model.specs.Reads.{flat_reads, reads}
 use Rattle.mx_model.specs.Run.{all_halted, flat_kind, flat_turn, kind}
-use Rattle.mx_model.specs.State.{Flat, Running, State, Status, Waiting, Halted, flat, hart_at}
+use Rattle.mx_model.specs.State.{Flat, State, flat, hart_at}
 use Rattle.mx_model.specs.Valid.{IsValid}
 use Rattle.mx_model.proofs.KeepLaws.{keeps-turned}
 use Rattle.mx_laws.specs.Twins.{AreTwins, IsRunning, free_twins}
 use Rattle.mx_laws.proofs.AfterLaws.{agree-after}
 use Rattle.mx_laws.proofs.TurnParts.{there}
-use Rattle.mx_laws.proofs.TwinLaws.{border-twins, ran-free, store-twins}
+use Rattle.mx_laws.proofs.TwinLaws.{border-twins, ran-free, store-twins, standing-running as running-too}
 use Rattle.mx_touched.specs.Pairs.{ArePair, fails, is_compared}
 use Rattle.mx_touched.proofs.Going.{border-kind, halted-holds, halted-turn, pair-turn}
 use Rattle.mx_twin.specs.declared.twin.TwinEnd.{TwinEnd}
@@ -19,13 +19,8 @@ use Rattle.mx_twin.specs.declared.twin.TwinEnd.TheVariants as E
 use Rattle.mx_twin.specs.Turns.{AreAlike, AreTwinTurns}
 use Rattle.mx_twin.specs.Twins.{IsAtBorder, next_hart, turns_on, twins, twins_from}
 
--- one turn
-running-too : (s t : Status) → s ≡ Running → standing s ≡ standing t → t ≡ Running
-running-too s Running e f = refl
-running-too s (Waiting call heard) e f = absurd (let k = ap standing e in let q : ⊥ = cc in q)
-running-too s (Halted code) e f = absurd (let k = ap standing e in let q : ⊥ = cc in q)
-
-module _ (s t : State) (h : ℕ) (v : IsValid s.core) (w : IsValid t.core) (a : AreAlike (flat s) (flat t)) (k : agree s t h) (e : IsRunning s.core h) where
+module _ (s t : State) (h : ℕ) (v : IsValid s.core) (w : IsValid t.core) (a : AreAlike (flat s) (flat t)) (k : agree s t h)
+    (e : IsRunning s.core h) where
   are-twins : AreTwins (reads s) s.core (reads t) t.core h
   are-twins =
       let first = v.ram_count in
@@ -64,7 +59,12 @@ pub alike-turn : (f g : Flat) (h : ℕ) → AreAlike f g → AreAlike (flat_turn
 alike-turn f g h a =
     let x = keeps-turned (flat_reads f) f.core h in
     let y = keeps-turned (flat_reads g) g.core h in
-    record { harts = x.harts ∙ a.harts ∙ sym y.harts; modules = x.modules ∙ a.modules ∙ sym y.modules; words = x.size ∙ a.words ∙ sym y.size }
+    record {
+      harts = x.harts ∙ a.harts ∙ sym y.harts;
+      modules = x.modules ∙ a.modules ∙ sym y.modules;
+      words = x.size ∙ a.words
+          ∙ sym y.size;
+    }
 
 -- a turn more, and the last one
 module _ (d quantum made : ℕ) (f g : Flat) where
@@ -100,14 +100,16 @@ halted-agreed d quantum (suc n) made f g p a b =
 
 -- the answer is at a border
 module _ (d quantum : ℕ) (f g : Flat) where
-  ended-at : (made n : ℕ) (u v : Flat) → n ≡ suc made → ArePair u v → fails d u v ≡ false → u ≡ turns_on quantum made f → v ≡ turns_on quantum made g →
+  ended-at : (made n : ℕ) (u v : Flat) → n ≡ suc made → ArePair u v → fails d u v ≡ false → u ≡ turns_on quantum made f
+      → v ≡ turns_on quantum made g →
       fails d (flat_turn u (next_hart quantum made u)) (flat_turn v (next_hart quantum made u)) ≡ true →
       IsAtBorder d quantum f g (E.Ended n (next_hart quantum made u) (flat_kind u (next_hart quantum made u)))
   ended-at made n u v i p k x y e =
       let h = next_hart quantum made u in
       subst (λ (m : ℕ). IsAtBorder d quantum f g (E.Ended m h (flat_kind u h))) (sym i)
       (λ (c : is_compared d (turns_on quantum made f) (turns_on quantum made g) h ≡ true).
-      border-kind d h u v p k (ap (λ (z : Flat). is_compared d z v h) x ∙ ap (λ (z : Flat). is_compared d (turns_on quantum made f) z h) y ∙ c) e)
+      border-kind d h u v p k (ap (λ (z : Flat). is_compared d z v h) x ∙ ap (λ (z : Flat). is_compared d (turns_on quantum made f) z h) y
+      ∙ c) e)
 
   border-from : (n made : ℕ) (u v : Flat) → ArePair u v → fails d u v ≡ false → u ≡ turns_on quantum made f → v ≡ turns_on quantum made g →
       IsAtBorder d quantum f g (twins_from d quantum n made u v)
@@ -127,7 +129,8 @@ module _ (d quantum : ℕ) (f g : Flat) where
 
   pub at-border : (steps : ℕ) → ArePair f g → IsAtBorder d quantum f g (twins d quantum steps f g)
   at-border steps p =
-      elim (fails d f g) as (λ b. fails d f g ≡ b → IsAtBorder d quantum f g (if b then E.Ended 0 0 T.Idle else twins_from d quantum steps 0 f g)) [
+      elim (fails d f g) as (λ b. fails d f g ≡ b → IsAtBorder d quantum f g
+      (if b then E.Ended 0 0 T.Idle else twins_from d quantum steps 0 f g)) [
         | true ↦ λ e. tt
         | false ↦ λ e. border-from steps 0 f g p e refl refl
       ] refl

@@ -75,7 +75,8 @@ module _ (d h : ℕ) (f g m n : Flat) (a : AreAlike f g) (v : IsWhole f) (w : Is
       moved o (subst (λ (z : Option Bool). IsRight d (flat_turn f h) (flat_turn g h) z) (sym is)
       (unknown-right d h f g pair (pair-turn f g h pair) (subst (λ (b : Bool). Knows d f g b) i k)))
 
-  pub watched-ran : (known : Bool) → Knows d f g known → (compared : Bool) → compared ≡ is_compared d f g h → (kind : TurnKind) → kind ≡ flat_kind f h →
+  pub watched-ran : (known : Bool) → Knows d f g known → (compared : Bool) → compared ≡ is_compared d f g h → (kind : TurnKind)
+      → kind ≡ flat_kind f h →
       (compared ≡ true) × (kind ≡ T.Ran) → IsRight d m n (Some true)
   watched-ran known k compared c kind e p =
       moved (Some true) (ran-right d h f g known pair k (sym c ∙ p.0) (sym e ∙ p.1))

@@ -21,7 +21,8 @@ pub record MakeOneTurn (s t : State) (h : ℕ) (first second : TurnKind) : Type 
   pub store : MakeOneStore (reads s) s.core (reads t) t.core h
   pub agreement : agree_after s t h h
 
--- turns of hart h, for which the states agree, by what they were: the border is the same in both; where it is nothing the turns are one, and
+-- turns of hart h, for which the states agree, by what they were: the border is the same in both; where it is nothing the turns are one,
+-- and
 -- else neither just carries out an instruction
 pub record AreTwinTurns (s t : State) (h : ℕ) (first second : TurnKind) : Type 0 where
   pub same : border (reads s) s.core h ≡ border (reads t) t.core h

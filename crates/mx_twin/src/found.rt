@@ -17,7 +17,8 @@ use mx_any::{AnyMachine, any_machine_is_valid};
 use mx_model::{Events, TurnKind};
 use mx_touched::{turns_leave_the_rest, twins_are_found};
 
-/// What is found after a turn of a hart, of what the turn touched in each machine, where the domain saw the same of both before: `None`
+/// What is found after a turn of a hart, of what the turn touched in each machine, where the domain saw the same of
+/// both before: `None`
 /// where agreement fails, else whether the domain is known to see the same.
 fn found_known(
     a: &AnyMachine,
@@ -65,7 +66,8 @@ fn found_unknown(a: &AnyMachine, b: &AnyMachine, domain: u32, hart: u32) -> Opti
     }
 }
 
-/// Whether a turn of a hart was one after which nothing need be compared: the hart was compared before it, and the turn just carried out
+/// Whether a turn of a hart was one after which nothing need be compared: the hart was compared before it, and the turn
+/// just carried out
 /// an instruction.
 fn is_free(compared: bool, kind: TurnKind) -> bool
     ensures { result ≡ true → (compared ≡ true) × (kind ≡ T.Ran) }
@@ -76,7 +78,8 @@ fn is_free(compared: bool, kind: TurnKind) -> bool
     }
 }
 
-/// One turn of a hart in both machines, what it was in the first, and what is known after it: `None` where agreement fails for the
+/// One turn of a hart in both machines, what it was in the first, and what is known after it: `None` where agreement
+/// fails for the
 /// domain, else whether the domain is known to see the same of both. Where it isn't no hart is in the domain.
 pub(crate) fn step_watched(
     a: &mut AnyMachine,

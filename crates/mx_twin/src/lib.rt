@@ -1,4 +1,5 @@
-//! Two machines side by side: a turn of the same hart in both, and the first turn after which they don't agree for a domain.
+//! Two machines side by side: a turn of the same hart in both, and the first turn after which they don't agree for a
+//! domain.
 #![tactic(auto)]
 
 mod before;

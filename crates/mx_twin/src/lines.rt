@@ -9,7 +9,8 @@ use mx_io::{Failed, Piece, Sink};
 use mx_tail::{Tail, put_pieces};
 use mx_trace::kind_name;
 
-/// Puts the line of a twin run over so many steps: `twin agreed steps=N`, or `twin ended step=S hart=H kind=K`. Where a write fails, a
+/// Puts the line of a twin run over so many steps: `twin agreed steps=N`, or `twin ended step=S hart=H kind=K`. Where a
+/// write fails, a
 /// prefix of the line was appended.
 pub fn twin_line<R: Sink>(sink: &mut R, steps: u64, end: TwinEnd) -> Result<(), Failed>
     ensures { Puts (R.state sink.old) (R.state sink.new) (twin_line steps end) result }

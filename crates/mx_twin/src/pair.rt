@@ -12,10 +12,13 @@ use mx_any::{AnyMachine, any_machine_is_valid};
 use mx_laws::turns_of_twins;
 use mx_model::{Events, TurnKind};
 
-/// One turn of the hart of that number in both machines, and what it was in each. What stood in `left` and `right` is dropped; what the
-/// turns append is put there. The machines have as many harts, modules and words, and fewer than 2^64 - 1 turns were made of each.
+/// One turn of the hart of that number in both machines, and what it was in each. What stood in `left` and `right` is
+/// dropped; what the
+/// turns append is put there. The machines have as many harts, modules and words, and fewer than 2^64 - 1 turns were
+/// made of each.
 ///
-/// Isolation: where the machines agree for the hart and it runs, both meet the same border. Where that is nothing both turns just carry
+/// Isolation: where the machines agree for the hart and it runs, both meet the same border. Where that is nothing both
+/// turns just carry
 /// out an instruction, with the same store, and the machines agree for the hart afterwards; else neither does.
 pub fn step_pair(
     a: &mut AnyMachine,

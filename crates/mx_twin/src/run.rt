@@ -13,15 +13,20 @@ use mx_any::{AnyMachine, any_machine_is_valid};
 use mx_model::{Events, TurnKind};
 use mx_touched::twins_go_on;
 
-/// Watches two machines for a domain over so many turns of each, counted from 1. Turn s is of hart ((s - 1) / quantum) mod the number of
-/// harts in both. Agreement fails where it does so for a hart that in either machine isn't halted and is in the domain. The answer is
-/// the first turn after which it fails, with its hart and its kind in the first machine; step 0, hart 0 and idle where it fails at the
+/// Watches two machines for a domain over so many turns of each, counted from 1. Turn s is of hart ((s - 1) / quantum)
+/// mod the number of
+/// harts in both. Agreement fails where it does so for a hart that in either machine isn't halted and is in the domain.
+/// The answer is
+/// the first turn after which it fails, with its hart and its kind in the first machine; step 0, hart 0 and idle where
+/// it fails at the
 /// start; and that they agree where it never does.
 ///
-/// The machines have as many harts, modules and words, and fewer than 2^64 turns are made of each with these. The domain is a module's,
+/// The machines have as many harts, modules and words, and fewer than 2^64 turns are made of each with these. The
+/// domain is a module's,
 /// and the quantum at least 1. Where all harts of both are halted the answer comes at once.
 ///
-/// Isolation: where it fails after a turn of a hart that was so before it, that turn was neither idle nor just carried out an instruction.
+/// Isolation: where it fails after a turn of a hart that was so before it, that turn was neither idle nor just carried
+/// out an instruction.
 pub fn run_twin(
     a: &mut AnyMachine,
     b: &mut AnyMachine,

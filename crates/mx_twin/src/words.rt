@@ -30,7 +30,8 @@ fn same_bytes(a: &AnyMachine, b: &AnyMachine, at: u32, end: u32) -> bool
     same_slices(a.bytes(4 * at, 4 * count), b.bytes(4 * at, 4 * count))
 }
 
-/// The permission of a domain on a word, and the end of words from it on that all have it. The next word behind them may have it too.
+/// The permission of a domain on a word, and the end of words from it on that all have it. The next word behind them
+/// may have it too.
 fn run_at(machine: &AnyMachine, domain: u32, at: u32) -> (Perm, u32)
     requires domain { IsModule (length (meaning machine.now).core.modules) domain }
     requires inside { at < (meaning machine.now).core.size }
@@ -52,7 +53,8 @@ fn lesser(x: u32, y: u32) -> u32
     if x < y { x } else { y }
 }
 
-/// Whether two permissions are the same, and the words from `at` up to `end` have the same bytes where these allow a read.
+/// Whether two permissions are the same, and the words from `at` up to `end` have the same bytes where these allow a
+/// read.
 fn same_run(a: &AnyMachine, b: &AnyMachine, at: u32, end: u32, one: Perm, other: Perm) -> bool
     requires alike { AreAlike (meaning a.now) (meaning b.now) }
     requires some { at ≤ end }
@@ -65,7 +67,8 @@ fn same_run(a: &AnyMachine, b: &AnyMachine, at: u32, end: u32, one: Perm, other:
     one == other && (!one.allows(Access::Read) || same_bytes(a, b, at, end))
 }
 
-/// The end of words from `at` on, up to `end` at most, that a domain sees alike in both. `None` exactly where it doesn't see all up to
+/// The end of words from `at` on, up to `end` at most, that a domain sees alike in both. `None` exactly where it
+/// doesn't see all up to
 /// `end` alike, and that shows at once.
 fn seen_run(a: &AnyMachine, b: &AnyMachine, domain: u32, at: u32, end: u32) -> Option<u32>
     requires alike { AreAlike (meaning a.now) (meaning b.now) }
@@ -84,7 +87,8 @@ fn seen_run(a: &AnyMachine, b: &AnyMachine, domain: u32, at: u32, end: u32) -> O
     }
 }
 
-/// Whether a domain sees the words from `first` on, `count` of them, alike in both: the same permission on each, and the same bytes
+/// Whether a domain sees the words from `first` on, `count` of them, alike in both: the same permission on each, and
+/// the same bytes
 /// where it may read.
 pub(crate) fn sees_all(a: &AnyMachine, b: &AnyMachine, domain: u32, first: u32, count: u32) -> bool
     requires alike { AreAlike (meaning a.now) (meaning b.now) }

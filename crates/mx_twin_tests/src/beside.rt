@@ -91,7 +91,8 @@ fn agreement_is_tested_rightly_after_each_turn(rt: HostRuntime) -> Result<(), Fa
 /// How many rounds are made.
 const ROUNDS: u32 = 8;
 
-/// A round: a twin run of seven steps in a and b, the plain body in the machines c and d, and then three turns more in all. Whether
+/// A round: a twin run of seven steps in a and b, the plain body in the machines c and d, and then three turns more in
+/// all. Whether
 /// both come to the same.
 fn is_same_round(
     a: &mut AnyMachine,

@@ -1,4 +1,5 @@
-//! Two worked examples, over tables of two kinds side by side, and machines whose harts are all halted. Expected ends are written by
+//! Two worked examples, over tables of two kinds side by side, and machines whose harts are all halted. Expected ends
+//! are written by
 //! hand from the rules.
 
 use crate::machines::{AT_THE_START, Asked, KINDS, PACKED, twin_after};
@@ -72,7 +73,8 @@ const AT_THE_RETURN: TwinEnd = TwinEnd::Ended {
     kind: TurnKind::Returned,
 };
 
-/// Two manifests, a domain, the steps asked, and what a twin run comes to. In the third turn the hart enters the domain whose words
+/// Two manifests, a domain, the steps asked, and what a twin run comes to. In the third turn the hart enters the domain
+/// whose words
 /// differ, and in the fifth it leaves that with another answer.
 static RUNS: [(&str, &str, u32, u64, TwinEnd); 9] = [
     (FIVE, SIX, 1, 10, AT_THE_RETURN),
@@ -104,7 +106,8 @@ fn examples_over_tables_of_two_kinds(rt: HostRuntime) -> Result<(), Fail> {
     Ok(())
 }
 
-/// Two manifests, the turns made before, and what a twin run of 9999999999 steps comes to. A hart that is halted in both isn't
+/// Two manifests, the turns made before, and what a twin run of 9999999999 steps comes to. A hart that is halted in
+/// both isn't
 /// compared, so its words may differ.
 static HALTED: [(&str, &str, u64, TwinEnd); 5] = [
     (FIVE, FIVE, 0, TwinEnd::Agreed),

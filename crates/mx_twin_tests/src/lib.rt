@@ -1,4 +1,5 @@
-//! Tests of two machines side by side: turns of one hart in both, and the first turn after which they don't agree for a domain.
+//! Tests of two machines side by side: turns of one hart in both, and the first turn after which they don't agree for a
+//! domain.
 #![tactic(auto)]
 
 #[cfg(test)]

@@ -1,4 +1,5 @@
-//! Two machines that boot from manifests' texts, and calls of them, which answer nothing where the machines or the numbers aren't
+//! Two machines that boot from manifests' texts, and calls of them, which answer nothing where the machines or the
+//! numbers aren't
 //! what they want.
 ghost use Rattle.std.specs.Prelude.{◌≡◌, true};
 ghost use Rattle.mx_any.specs.Machines.{meaning};

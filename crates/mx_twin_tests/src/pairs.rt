@@ -1,4 +1,5 @@
-//! Pairs of machines that differ in what one module does or is, and the turn after which the other module sees that. Expected ends are
+//! Pairs of machines that differ in what one module does or is, and the turn after which the other module sees that.
+//! Expected ends are
 //! written by hand from the rules.
 
 use crate::machines::{Asked, MULTILEVEL, PACKED, SEGMENTS, twin_after};
@@ -88,7 +89,8 @@ returns = [0x8000102C]
 module = \"a\"
 ";
 
-/// `lui a0, 0x80002`, `addi a1, zero, 4`, `addi a2, zero, 1`, `addi a3, zero, 1`, `addi a7, zero, 3`, `ecall`: b grants a read of the
+/// `lui a0, 0x80002`, `addi a1, zero, 4`, `addi a2, zero, 1`, `addi a3, zero, 1`, `addi a7, zero, 3`, `ecall`: b grants
+/// a read of the
 /// first word of its stack area.
 const GRANT: &str = "0x80002537, 0x00400593, 0x00100613, 0x00100693, 0x00300893, 0x00000073, ";
 
@@ -148,7 +150,8 @@ const EBREAK: &str = "0x00100073";
 
 const LOOP: &str = "0x0000006F";
 
-/// With two harts and a quantum of 1 the turn n of b's hart is step 2 n. Calls 3, 4, 6 and 7 take effect one turn of theirs after the
+/// With two harts and a quantum of 1 the turn n of b's hart is step 2 n. Calls 3, 4, 6 and 7 take effect one turn of
+/// theirs after the
 /// ECALL, once a's hart has heard them.
 pub(crate) static PAIRS: [Pair; 18] = [
     // The grant is the seventh turn, the store the tenth.
@@ -213,7 +216,8 @@ pub(crate) static PAIRS: [Pair; 18] = [
         quantum: 1,
         end: Some((22, 1, TurnKind::Called, TurnKind::Called)),
     },
-    // Four turns for the block, six for the grant, three to the ECALL, and one, in which the second machine's hart jumps.
+    // Four turns for the block, six for the grant, three to the ECALL, and one, in which the second machine's hart
+    // jumps.
     Pair {
         name: "a block that a may read, freed or not",
         a: [LOOPING, LOOPING],

@@ -8,7 +8,8 @@ use mx_words::Perm;
 /// How many gates a machine has at most.
 const GATES: u32 = 256;
 
-/// The permission of a domain on a word, and the word after those round it on which that is the same, where there are such.
+/// The permission of a domain on a word, and the word after those round it on which that is the same, where there are
+/// such.
 fn right(machine: &AnyMachine, domain: u32, word: u32) -> Option<(Perm, u32)> {
     if domain == 0 || domain > machine.modules() || word >= machine.words() {
         return None;
@@ -50,7 +51,8 @@ fn has_same_bytes(a: &AnyMachine, b: &AnyMachine, word: u32) -> bool {
     true
 }
 
-/// How many words from one on a domain sees alike in both: this word, or all up to the next one on which it has a permission, where it has
+/// How many words from one on a domain sees alike in both: this word, or all up to the next one on which it has a
+/// permission, where it has
 /// none in either. None where it doesn't see this one alike.
 fn seen(a: &AnyMachine, b: &AnyMachine, domain: u32, word: u32) -> Option<u32> {
     let Some((one, end)) = right(a, domain, word) else {

@@ -1,5 +1,6 @@
 -- A served call when its caches are forgotten.
-use Rattle.std.proofs.Common.{◌≡◌, ℕ, Bool, true, false, not, List, [], ◌∷◌, drop, refl, ◌∙◌, ap, nat_lt, if◌then◌else◌, Option, Some, None, unwrap_or}
+use Rattle.std.proofs.Common.{◌≡◌, ℕ, Bool, true, false, not, List, [], ◌∷◌, drop, refl, ◌∙◌, ap, nat_lt, if◌then◌else◌, Option, Some, None}
+use Rattle.std.proofs.Common.{unwrap_or}
 use Rattle.std.specs.Option.{option_map_or}
 use Rattle.mx_words.specs.Announced.{is_announced}
 use Rattle.mx_words.specs.Caches.{Cache}
@@ -10,7 +11,9 @@ use Rattle.mx_model.specs.declared.values.TurnKind.TheVariants as T
 use Rattle.mx_model.specs.Checks.{arg, call_range, drops, looked_all}
 use Rattle.mx_model.specs.Effect.{next}
 use Rattle.mx_model.specs.Reads.{reads}
-use Rattle.mx_model.specs.Serve.{Served, Service, Exit, Write, Grant, RevokeAll, Transfer, Alloc, Free, AddGate, RemoveGate, AddReturnGate, Query, Self, Exchange, Unknown, alloc_from, answers, arg_word, bytes_at, code, ended, exchange_from, exchanged, judged, look_of, served_by, service, write_from, write_looks, written_out}
+use Rattle.mx_model.specs.Serve.{Served, Service, Exit, Write, Grant, RevokeAll, Transfer, Alloc, Free, AddGate, RemoveGate, AddReturnGate}
+use Rattle.mx_model.specs.Serve.{Query, Self, Exchange, Unknown, alloc_from, answers, arg_word, bytes_at, code, ended, exchange_from}
+use Rattle.mx_model.specs.Serve.{exchanged, judged, look_of, served_by, service, write_from, write_looks, written_out}
 use Rattle.mx_model.specs.State.{Core, Hart, State, hart_at}
 use Rattle.mx_model.specs.Table.{bytes_outside, is_word, new_block, tests}
 use Rattle.mx_model.specs.Turn.{answered, done, halted, made, served, with_regs}

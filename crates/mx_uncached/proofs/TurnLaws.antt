@@ -1,5 +1,6 @@
 -- A turn when its caches are forgotten, by the cases of the written rule.
-use Rattle.std.proofs.Common.{◌≡◌, ℕ, ◌%◌, true, false, not, ◌==◌, ◌||◌, nat_le, List, length, refl, ◌∙◌, ap, if◌then◌else◌, Option, Some, None}
+use Rattle.std.proofs.Common.{◌≡◌, ℕ, ◌%◌, true, false, not, ◌==◌, ◌||◌, nat_le, List, length, refl, ◌∙◌, ap, if◌then◌else◌, Option, Some}
+use Rattle.std.proofs.Common.{None}
 use Rattle.std.specs.Prelude.{slice_set}
 use Rattle.std.specs.Option.{option_map_or}
 use Rattle.mx_words.specs.declared.perm.Access.TheVariants as A
@@ -11,12 +12,15 @@ use Rattle.mx_isa.specs.Table.{decoded}
 use Rattle.mx_model.specs.declared.values.Frame.{Frame}
 use Rattle.mx_model.specs.declared.values.TurnKind.TheVariants as T
 use Rattle.mx_model.specs.Checks.{hears, is_halted, is_ready, looked_all}
-use Rattle.mx_model.specs.Effect.{Effect, Goes, Faults, Loads, Stores, Calls, Jumps, effect, by_target, load_size, loaded, next, reg, written}
+use Rattle.mx_model.specs.Effect.{Effect, Goes, Faults, Loads, Stores, Calls, Jumps, effect, by_target, load_size, loaded, next, reg}
+use Rattle.mx_model.specs.Effect.{written}
 use Rattle.mx_model.specs.Gates.{most_frames, top}
 use Rattle.mx_model.specs.Reads.{reads}
 use Rattle.mx_model.specs.Run.{turn}
 use Rattle.mx_model.specs.State.{Core, Hart, Running, State, Status, Waiting, Halted, hart_at, module_at}
-use Rattle.mx_model.specs.Turn.{Action, Asks, Bounces, Crosses, Returns, Runs, Traps, Writes, Serves, Waits, acted, asked, at_gate, at_return, by_effect, by_status, by_word, call_gate_at, call_of, counted, decide, enacted, fault_answer, fetches, is_denied, is_return_at, load_at, returned_over, runs_at, runs_in, traps, without_look}
+use Rattle.mx_model.specs.Turn.{Action, Asks, Bounces, Crosses, Returns, Runs, Traps, Writes, Serves, Waits, acted, asked, at_gate}
+use Rattle.mx_model.specs.Turn.{at_return, by_effect, by_status, by_word, call_gate_at, call_of, counted, decide, enacted, fault_answer}
+use Rattle.mx_model.specs.Turn.{fetches, is_denied, is_return_at, load_at, returned_over, runs_at, runs_in, traps, without_look}
 use Rattle.mx_model.proofs.TurnCases.{hart-hears, looked_all-caches}
 use Rattle.mx_uncached.specs.Plain.{Plain, go, store, with_hart}
 use Rattle.mx_uncached.specs.Calls.{serve}

@@ -14,8 +14,11 @@ use Rattle.mx_model.specs.Checks.{arg}
 use Rattle.mx_model.specs.Effect.{next}
 use Rattle.mx_model.specs.Gates.{with_gate, without_gate}
 use Rattle.mx_model.specs.Serve.{code}
-use Rattle.mx_model.specs.Table.{Service, Exit, Write, Grant, RevokeAll, Transfer, Alloc, Free, AddGate, RemoveGate, AddReturnGate, Query, Self, Exchange, Unknown, Sight, service, arg_word, blocks, new_block, granted, revoked, allocated, freed, given, tests}
-use Rattle.mx_uncached.specs.Plain.{Plain, plain_hart, module_of, perm_of, owner_of, change, would_fit, few_runs, with_module, go, halt, note}
+use Rattle.mx_model.specs.Table.{Service, Exit, Write, Grant, RevokeAll, Transfer, Alloc, Free, AddGate, RemoveGate, AddReturnGate, Query}
+use Rattle.mx_model.specs.Table.{Self, Exchange, Unknown, Sight, service, arg_word, blocks, new_block, granted, revoked, allocated, freed}
+use Rattle.mx_model.specs.Table.{given, tests}
+use Rattle.mx_uncached.specs.Plain.{Plain, plain_hart, module_of, perm_of, owner_of, change, would_fit, few_runs, with_module, go, halt}
+use Rattle.mx_uncached.specs.Plain.{note}
 
 -- what a call is judged by
 abbrev pub sight : Plain → Sight

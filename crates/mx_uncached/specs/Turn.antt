@@ -1,6 +1,7 @@
 -- One turn of one hart of the plain machine, of whose cases the first that applies decides; runs.
 -- The same in prose: docs/ABSTRACT.md.
-use Rattle.std.specs.Prelude.{ℕ, zero, suc, ◌+◌, ◌*◌, ◌/◌, ◌%◌, Bool, true, false, not, ◌==◌, ◌&&◌, ◌||◌, nat_le, List, [], ◌∷◌, ◌++◌, length, slice_index, slice_set, if◌then◌else◌, None, unwrap_or}
+use Rattle.std.specs.Prelude.{ℕ, zero, suc, ◌+◌, ◌*◌, ◌/◌, ◌%◌, Bool, true, false, not, ◌==◌, ◌&&◌, ◌||◌, nat_le, List, [], ◌∷◌, ◌++◌}
+use Rattle.std.specs.Prelude.{length, slice_index, slice_set, if◌then◌else◌, None, unwrap_or}
 use Rattle.std.specs.Prelude.{map as list_map}
 use Rattle.std.specs.List.{list_all, enumerate_from}
 use Rattle.std.specs.Option.{option_map_or}
@@ -12,7 +13,8 @@ use Rattle.mx_isa.specs.Table.{decoded}
 use Rattle.mx_model.specs.declared.values.Frame.{Frame}
 use Rattle.mx_model.specs.declared.values.Note.TheVariants as N
 use Rattle.mx_model.specs.Checks.{heard_by, is_halted}
-use Rattle.mx_model.specs.Effect.{Effect, Goes, Faults, Loads, Stores, Calls, Jumps, effect, by_target, reg, written, next, load_size, loaded}
+use Rattle.mx_model.specs.Effect.{Effect, Goes, Faults, Loads, Stores, Calls, Jumps, effect, by_target, reg, written, next, load_size}
+use Rattle.mx_model.specs.Effect.{loaded}
 use Rattle.mx_model.specs.Gates.{call_gate, is_return, most_frames, top, below_top, nearest}
 use Rattle.mx_model.specs.Run.{Schedule, ByQuantum, ByBytes, is_over}
 use Rattle.mx_model.specs.State.{Hart, Status, Running, Waiting, Halted}

@@ -1,4 +1,5 @@
-//! The plain machine, which has no caches, and the law that they decide nothing: a newcomer reads `specs/Plain.antt` first.
+//! The plain machine, which has no caches, and the law that they decide nothing: a newcomer reads `specs/Plain.antt`
+//! first.
 #![tactic(auto)]
 
 mod laws;

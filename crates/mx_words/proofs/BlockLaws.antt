@@ -1,5 +1,6 @@
 -- Blocks of a map by number: how many are broken, which are eighth-uniform, and which a change leaves alone.
-use Rattle.std.proofs.Common.{◌≡◌, ◌≢◌, ℕ, zero, suc, ◌+◌, ◌*◌, ◌/◌, ◌<◌, ◌≤◌, ◌⊎◌, inl, inr, ◌==◌, ◌||◌, true, false, not, List, [], ◌∷◌, length, drop, refl, sym, ap, ◌∙◌, arith, length-take, length-drop, eq-eqb}
+use Rattle.std.proofs.Common.{◌≡◌, ◌≢◌, ℕ, zero, suc, ◌+◌, ◌*◌, ◌/◌, ◌<◌, ◌≤◌, ◌⊎◌, inl, inr, ◌==◌, ◌||◌, true, false, not, List, [], ◌∷◌}
+use Rattle.std.proofs.Common.{length, drop, refl, sym, ap, ◌∙◌, arith, length-take, length-drop, eq-eqb}
 use Rattle.std.specs.List.{list_all}
 use Rattle.std.proofs.lemmas.Bool.{eqb-true, cases_lt, cases_eq, and_parts, or_cases, or_right}
 use Rattle.std.proofs.lemmas.List.{get_or-take, get_or-drop, ext_get_or, get_or_past}
@@ -18,7 +19,8 @@ pub broken_blocks-count : (size : ℕ) (m : List Perm) (k : ℕ) → 0 < size �
     broken_blocks size m ≡ count_below k (is_broken size m)
 broken_blocks-count size m k some within = count_pieces size (λ block. not (is_eighth_uniform size block)) some refl k m within
 
-pub crowded_lines-count : (m : List Perm) (k : ℕ) → length m ≤ k * line_words → crowded_lines m ≡ count_below k (λ b. is_crowded (block_of line_words m b))
+pub crowded_lines-count : (m : List Perm) (k : ℕ) → length m ≤ k * line_words
+    → crowded_lines m ≡ count_below k (λ b. is_crowded (block_of line_words m b))
 crowded_lines-count m k within = count_pieces line_words is_crowded (omega arith) refl k m within
 
 -- a word of a block
@@ -30,7 +32,14 @@ pub block_of-same : (size : ℕ) (m n : List Perm) (b : ℕ) → length m ≡ le
     ((k : ℕ) → k < size → perm_at m (b * size + k) ≡ perm_at n (b * size + k)) → block_of size m b ≡ block_of size n b
 block_of-same size m n b long agree =
     ext_get_or P.None (block_of size m b) (block_of size n b)
-    (omega (arith, length-take size (drop (b * size) m), length-take size (drop (b * size) n), length-drop (b * size) m, length-drop (b * size) n))
+    (omega (
+      arith,
+      length-take size (drop (b * size) m),
+      length-take size (drop (b * size) n),
+      length-drop (b * size) m,
+      length-drop
+          (b * size) n,
+    ))
     (λ i below.
     let inside : i < size = omega (arith, length-take size (drop (b * size) m)) in
     block_of-at size m b i inside ∙ agree i inside ∙ sym (block_of-at size n b i inside))
@@ -49,22 +58,26 @@ all_same_are p (q ∷ qs) each =
     rw (first, rest) refl
 
 -- words that have one permission, by index: `size` words of which a list holds the first, the others having none
-uniform_past : (p : Perm) (ps : List Perm) (size k : ℕ) → length ps ≤ k → suc k < size → (same p P.None ≡ true) ⊎ ((length ps + 1 == size) ≡ true) → perm_at ps k ≡ p
+uniform_past : (p : Perm) (ps : List Perm) (size k : ℕ) → length ps ≤ k → suc k < size
+    → (same p P.None ≡ true) ⊎ ((length ps + 1 == size) ≡ true) → perm_at ps k ≡ p
 uniform_past p ps size k out below (inl h) = get_or_past ps k P.None out ∙ sym (same_eq p P.None h)
 uniform_past p ps size k out below (inr h) = absurd (let full : length ps + 1 ≡ size = eqb-true (length ps + 1) size h in omega arith)
 
-uniform_step : (size : ℕ) (p : Perm) (ps : List Perm) (k : ℕ) → is_uniform size (p ∷ ps) ≡ true → suc k < size → (k < length ps) ⊎ (length ps ≤ k) → perm_at ps k ≡ p
+uniform_step : (size : ℕ) (p : Perm) (ps : List Perm) (k : ℕ) → is_uniform size (p ∷ ps) ≡ true → suc k < size
+    → (k < length ps) ⊎ (length ps ≤ k) → perm_at ps k ≡ p
 uniform_step size p ps k e below (inl h) =
     sym (all_same-at p ps k (and_parts (list_all (same p) ps) (same p P.None || (length ps + 1 == size)) e).0 h)
 uniform_step size p ps k e below (inr h) =
-    uniform_past p ps size k h below (or_cases (same p P.None) (length ps + 1 == size) (and_parts (list_all (same p) ps) (same p P.None || (length ps + 1 == size)) e).1)
+    uniform_past p ps size k h below (or_cases (same p P.None) (length ps + 1 == size)
+    (and_parts (list_all (same p) ps) (same p P.None || (length ps + 1 == size)) e).1)
 
 pub uniform_from : (size : ℕ) (xs : List Perm) → is_uniform size xs ≡ true → (k : ℕ) → k < size → perm_at xs k ≡ perm_at xs 0
 uniform_from size [] e k below = get_or_past [] k P.None (omega arith)
 uniform_from size (p ∷ ps) e zero below = refl
 uniform_from size (p ∷ ps) e (suc k) below = uniform_step size p ps k e below (cases_lt k (length ps))
 
-pub uniform_is : (size : ℕ) (xs : List Perm) → length xs ≤ size → ((k : ℕ) → k < size → perm_at xs k ≡ perm_at xs 0) → is_uniform size xs ≡ true
+pub uniform_is : (size : ℕ) (xs : List Perm) → length xs ≤ size → ((k : ℕ) → k < size → perm_at xs k ≡ perm_at xs 0)
+    → is_uniform size xs ≡ true
 uniform_is size [] short alike = refl
 uniform_is size (p ∷ ps) short alike =
     let first : list_all (same p) ps ≡ true = all_same_are p ps (λ k below. sym (alike (suc k) (omega arith))) in
@@ -98,7 +111,8 @@ even_from size part m b is eight some h =
         alike = λ k inside.
             let zero_more : b * size + e * part + 0 ≡ b * size + e * part = omega arith in
             sym (part-at size part m b e k eight below inside)
-            ∙ uniform_from part (piece part (block_of size m b) e) (all_pieces-at part (is_uniform part) some refl e (block_of size m b) all) k inside
+            ∙ uniform_from part (piece part (block_of size m b) e)
+            (all_pieces-at part (is_uniform part) some refl e (block_of size m b) all) k inside
             ∙ part-at size part m b e 0 eight below some
             ∙ ap (perm_at m) zero_more;
       };

@@ -1,6 +1,7 @@
 -- What a change of one range does to the blocks of a map: at most two more are broken, and at most two more lines crowded, also where
 -- only a first part of the range is laid over and the block after it is counted as broken.
-use Rattle.std.proofs.Common.{◌≡◌, ◌≢◌, ℕ, zero, suc, ◌+◌, ◌-◌, ◌*◌, ◌/◌, ◌<◌, ◌≤◌, ◌⊎◌, inl, inr, ◌==◌, ◌||◌, Bool, true, false, not, List, length, drop, replicate, refl, sym, ap, ◌∙◌, arith, eq-eqb, length-take, length-drop, length-append}
+use Rattle.std.proofs.Common.{◌≡◌, ◌≢◌, ℕ, zero, suc, ◌+◌, ◌-◌, ◌*◌, ◌/◌, ◌<◌, ◌≤◌, ◌⊎◌, inl, inr, ◌==◌, ◌||◌, Bool, true, false, not, List}
+use Rattle.std.proofs.Common.{length, drop, replicate, refl, sym, ap, ◌∙◌, arith, eq-eqb, length-take, length-drop, length-append}
 use Rattle.std.proofs.lemmas.List.{get_or_append_left, length-replicate}
 use Rattle.std.proofs.Math.Nat.{div-mul-le_self, lt-div-mul-add, suc-mul}
 use Rattle.std.proofs.lemmas.Nat.{mul-le}
@@ -64,7 +65,10 @@ module _ (m : List Perm) (first count : ℕ) (p : Perm) (inside : first + count 
       cases (inl h) = is_broken-same size after m b (length-laid (grant_of first count p) m) h ∙ whole
       cases (inr h) =
           let zero_more : b * size + 0 ≡ b * size = omega arith in
-          whole-even size part after b is eight some (record { alike = λ k below. h.0 k below ∙ sym (ap (perm_at after) (sym zero_more) ∙ h.0 0 (omega arith)) })
+          whole-even size part after b is eight some (record {
+            alike = λ k below. h.0 k below
+                ∙ sym (ap (perm_at after) (sym zero_more) ∙ h.0 0 (omega arith));
+          })
 
 -- a line of one permission has one run
 uniform_runs : (xs : List Perm) (p : Perm) → ((k : ℕ) → k < length xs → perm_at xs k ≡ p) → runs xs ≤ 1
@@ -84,7 +88,8 @@ uniform_runs xs p alike =
         omega (arith, count_below-suc (suc n) (is_start xs))
 
 -- counts: at most as many more as pass a third test
-count_below-sum : (n : ℕ) (p q r : ℕ → Bool) → ((i : ℕ) → i < n → p i ≡ false → r i ≡ false → q i ≡ false) → count_below n q ≤ count_below n p + count_below n r
+count_below-sum : (n : ℕ) (p q r : ℕ → Bool) → ((i : ℕ) → i < n → p i ≡ false → r i ≡ false → q i ≡ false)
+    → count_below n q ≤ count_below n p + count_below n r
 count_below-sum zero p q r h = omega (arith, count_below-zero q)
 count_below-sum (suc n) p q r h =
     let rest : count_below n q ≤ count_below n p + count_below n r = count_below-sum n p q r (λ i below. h i (omega arith)) in
@@ -108,12 +113,14 @@ count_below-one : (n x : ℕ) → count_below n (λ i. i == x) ≤ 1
 count_below-one zero x = omega (arith, count_below-zero (λ i. i == x))
 count_below-one (suc n) x = one-step n x (count_below-one n x) (cases_eq n x)
 
-pub count_one_more : (n x : ℕ) (p q : ℕ → Bool) → ((i : ℕ) → i < n → i ≢ x → p i ≡ false → q i ≡ false) → count_below n q ≤ count_below n p + 1
+pub count_one_more : (n x : ℕ) (p q : ℕ → Bool) → ((i : ℕ) → i < n → i ≢ x → p i ≡ false → q i ≡ false)
+    → count_below n q ≤ count_below n p + 1
 count_one_more n x p q h =
     let all = count_below-sum n p q (λ i. i == x) (λ i below e f. h i below (λ same. let a : (i == x) ≡ true = eq-eqb i x same in cc) e) in
     omega (arith, count_below-one n x)
 
-pub count_two_more : (n x y : ℕ) (p q : ℕ → Bool) → ((i : ℕ) → i < n → i ≢ x → i ≢ y → p i ≡ false → q i ≡ false) → count_below n q ≤ count_below n p + 2
+pub count_two_more : (n x y : ℕ) (p q : ℕ → Bool) → ((i : ℕ) → i < n → i ≢ x → i ≢ y → p i ≡ false → q i ≡ false)
+    → count_below n q ≤ count_below n p + 2
 count_two_more n x y p q h =
     let both : count_below n (λ i. (i == x) || (i == y)) ≤ count_below n (λ i. i == x) + count_below n (λ i. i == y) =
     count_below-sum n (λ i. i == x) (λ i. (i == x) || (i == y)) (λ i. i == y) (λ i below e f. ap (λ v. v || (i == y)) e ∙ f) in
@@ -127,9 +134,15 @@ count_two_more n x y p q h =
     apart_right i f e = let a : (i == y) ≡ true = eq-eqb i y e in let b : (i == y) ≡ false = (or_parts (i == x) (i == y) f).1 in cc
 
 -- a whole line is itself
-whole-at : (block : List Perm) (p : Perm) → length block ≡ 16 → ((k : ℕ) → k < 16 → perm_at block k ≡ p) → (k : ℕ) → k < length (whole_line block) → perm_at (whole_line block) k ≡ p
+whole-at : (block : List Perm) (p : Perm) → length block ≡ 16 → ((k : ℕ) → k < 16 → perm_at block k ≡ p) → (k : ℕ)
+    → k < length (whole_line block) → perm_at (whole_line block) k ≡ p
 whole-at block p long alike k below =
-    let inside : k < length block = omega (arith, length-append block (replicate (line_words - length block) P.None), length-replicate (line_words - length block) P.None) in
+    let inside : k < length block = omega (
+      arith,
+      length-append block (replicate (line_words - length block) P.None),
+      length-replicate
+          (line_words - length block) P.None,
+    ) in
     get_or_append_left block (replicate (line_words - length block) P.None) P.None k inside ∙ alike k (omega arith)
 
 -- a change of one range, or of a first part of it, breaks at most two more blocks, with the block after it counted as broken
@@ -138,29 +151,47 @@ module _ (m : List Perm) (first count : ℕ) (p : Perm) (inside : first + count 
       broken_blocks size (laid (grant_of first count p) m) ≤ broken_blocks size m + 2
   broken_blocks-after size part k is eight some within =
       let long : length (laid (grant_of first count p) m) ≤ k * size = omega (arith, length-laid (grant_of first count p) m) in
-      let more = count_two_more k (first / size) ((first + count) / size) (is_broken size m) (is_broken size (laid (grant_of first count p) m))
+      let more = count_two_more k (first / size) ((first + count) / size) (is_broken size m)
+      (is_broken size (laid (grant_of first count p) m))
       (λ b below other behind whole. broken-stays m first count p inside size part b is eight some other behind whole) in
-      omega (arith, more, broken_blocks-count size m k (omega arith) within, broken_blocks-count size (laid (grant_of first count p) m) k (omega arith) long)
+      omega (
+        arith,
+        more,
+        broken_blocks-count size m k (omega arith) within,
+        broken_blocks-count size (laid (grant_of first count p) m) k
+            (omega arith) long,
+      )
 
   crowded-stays : (b : ℕ) → b ≢ first / line_words → b ≢ (first + count) / line_words →
       is_crowded (block_of line_words m b) ≡ false → is_crowded (block_of line_words (laid (grant_of first count p) m) b) ≡ false
   crowded-stays b other behind few = cases (block-either m first count p inside line_words b (omega arith) other behind)
     where
       cases : ((k : ℕ) → k < line_words → perm_at (laid (grant_of first count p) m) (b * line_words + k) ≡ perm_at m (b * line_words + k))
-          ⊎ (((k : ℕ) → k < line_words → perm_at (laid (grant_of first count p) m) (b * line_words + k) ≡ p) × (b * line_words + line_words ≤ length m)) →
+          ⊎ (((k : ℕ) → k < line_words → perm_at (laid (grant_of first count p) m) (b * line_words + k) ≡ p)
+          × (b * line_words + line_words ≤ length m)) →
           is_crowded (block_of line_words (laid (grant_of first count p) m) b) ≡ false
-      cases (inl h) = ap is_crowded (block_of-same line_words (laid (grant_of first count p) m) m b (length-laid (grant_of first count p) m) h) ∙ few
+      cases (inl h) = ap is_crowded (block_of-same line_words (laid (grant_of first count p) m) m b (length-laid (grant_of first count p) m)
+          h) ∙ few
       cases (inr h) =
           let block : List Perm = block_of line_words (laid (grant_of first count p) m) b in
-          let long : length block ≡ 16 = omega (arith, length-take line_words (drop (b * line_words) (laid (grant_of first count p) m)), length-drop (b * line_words) (laid (grant_of first count p) m), length-laid (grant_of first count p) m) in
+          let long : length block ≡ 16 = omega (
+            arith,
+            length-take line_words
+                (drop (b * line_words) (laid (grant_of first count p) m)),
+            length-drop (b * line_words)
+                (laid (grant_of first count p) m),
+            length-laid (grant_of first count p) m,
+          ) in
           let one : runs (whole_line block) ≤ 1 =
           uniform_runs (whole_line block) p
-          (λ k below. whole-at block p long (λ j under. block_of-at line_words (laid (grant_of first count p) m) b j under ∙ h.0 j under) k below) in
+          (λ k below. whole-at block p long (λ j under. block_of-at line_words (laid (grant_of first count p) m) b j under ∙ h.0 j under) k
+          below) in
           le-ltb 4 (runs (whole_line block)) (omega arith)
 
   pub crowded_lines-after : (k : ℕ) → length m ≤ k * line_words → crowded_lines (laid (grant_of first count p) m) ≤ crowded_lines m + 2
   crowded_lines-after k within =
       let long : length (laid (grant_of first count p) m) ≤ k * line_words = omega (arith, length-laid (grant_of first count p) m) in
-      let more = count_two_more k (first / line_words) ((first + count) / line_words) (λ b. is_crowded (block_of line_words m b)) (λ b. is_crowded (block_of line_words (laid (grant_of first count p) m) b))
+      let more = count_two_more k (first / line_words) ((first + count) / line_words) (λ b. is_crowded (block_of line_words m b)) (λ b.
+      is_crowded (block_of line_words (laid (grant_of first count p) m) b))
       (λ b below other behind few. crowded-stays b other behind few) in
       omega (arith, more, crowded_lines-count m k within, crowded_lines-count (laid (grant_of first count p) m) k long)

@@ -40,7 +40,8 @@ abbrev before : Span
 before = span K.Packed (map (record { first = 1024; count = 4; value = P.Read } ∷ []) 16384) 1024
 
 abbrev after : Span
-after = span K.Packed (map (record { first = 1024; count = 4; value = P.Read } ∷ record { first = 1024; count = 4; value = P.None } ∷ []) 16384) 1024
+after = span K.Packed (map (record { first = 1024; count = 4; value = P.Read } ∷ record { first = 1024; count = 4; value = P.None } ∷ [])
+    16384) 1024
 
 abbrev seen : Span → Bool → Cache → Cache
 seen walked barred c = checked 8 5 2 1024 walked barred c
@@ -60,7 +61,8 @@ second-look = refl
 third-look : counts_of (seen before true (seen before true (heard (seen before false no_cache)))) ≡ counts 0 0 3
 third-look = refl
 
-last-looks : counts_of (seen after false (seen after false (seen before true (seen before true (heard (seen before false no_cache)))))) ≡ counts 1 0 4
+last-looks : counts_of (seen after false (seen after false (seen before true (seen before true (heard (seen before false no_cache))))))
+    ≡ counts 1 0 4
 last-looks = refl
 
 -- counts end at 2^64 - 1
@@ -133,5 +135,6 @@ dropped : without_range 5 2 (cache ((0, low) ∷ (3, middle) ∷ (31, high) ∷ 
     ≡ cache ((0, low) ∷ []) ((1, low) ∷ (2, low) ∷ []) 10 20 30
 dropped = refl
 
-nothing-dropped : without_range 5 0 (cache ((3, middle) ∷ []) ((1, high) ∷ []) 10 20 30) ≡ cache ((3, middle) ∷ []) ((1, high) ∷ []) 10 20 30
+nothing-dropped : without_range 5 0 (cache ((3, middle) ∷ []) ((1, high) ∷ []) 10 20 30)
+    ≡ cache ((3, middle) ∷ []) ((1, high) ∷ []) 10 20 30
 nothing-dropped = refl

@@ -1,5 +1,6 @@
 -- Laws on counting, summing, testing and listing the numbers below a bound.
-use Rattle.std.proofs.Common.{◌≡◌, ◌≢◌, ℕ, zero, suc, ◌+◌, ◌-◌, ◌<◌, ◌≤◌, Bool, true, false, List, [], ◌∷◌, length, get_or, sum_by, refl, sym, ◌∙◌, ap, arith, inl, inr, ◌⊎◌, add-one, length-append}
+use Rattle.std.proofs.Common.{◌≡◌, ◌≢◌, ℕ, zero, suc, ◌+◌, ◌-◌, ◌<◌, ◌≤◌, Bool, true, false, List, [], ◌∷◌, length, get_or, sum_by, refl}
+use Rattle.std.proofs.Common.{sym, ◌∙◌, ap, arith, inl, inr, ◌⊎◌, add-one, length-append}
 use Rattle.std.proofs.lemmas.Bool.{cases_lt, and_parts}
 use Rattle.std.proofs.lemmas.List.{get_or_append_left, get_or_push, same_lists}
 use Rattle.std.proofs.lemmas.List.Sums.{sum_by_push}
@@ -86,7 +87,8 @@ count_below_still n m p le failing =
     omega (arith, along, count_below_none n (λ _. false) (λ i lt. refl), count_below_none m (λ _. false) (λ i lt. refl))
 
 -- a prefix passes
-pub count_below_is : (n r : ℕ) (p : ℕ → Bool) → r ≤ n → ((i : ℕ) → i < r → p i ≡ true) → ((i : ℕ) → r ≤ i → i < n → p i ≡ false) → count_below n p ≡ r
+pub count_below_is : (n r : ℕ) (p : ℕ → Bool) → r ≤ n → ((i : ℕ) → i < r → p i ≡ true) → ((i : ℕ) → r ≤ i → i < n → p i ≡ false)
+    → count_below n p ≡ r
 count_below_is n r p le passing failing = count_below_still r n p le failing ∙ count_below_all r p passing
 
 -- the count never falls, and rises by at most one at a step
@@ -132,7 +134,8 @@ count_below_first (suc n) p =
     let before = count_below_first n p in
     let one : count_below (suc n) p ≡ count_below (n + 1) p = ap (λ x. count_below x p) (sym f) in
     let last : bit (p (suc n)) ≡ bit (p (n + 1)) = ap bit here in
-    count_below-more (suc n) p ∙ let goal : count_below (suc n) p + bit (p (suc n)) ≡ bit (p 0) + count_below (suc n) (λ i. p (i + 1)) = omega (arith, one, last, before, count_below-suc n (λ i. p (i + 1))) in goal
+    count_below-more (suc n) p ∙ let goal : count_below (suc n) p + bit (p (suc n)) ≡ bit (p 0) + count_below (suc n) (λ i. p (i + 1)) =
+    omega (arith, one, last, before, count_below-suc n (λ i. p (i + 1))) in goal
 
 -- the number at which the count passes k
 pub record IsCounted (n : ℕ) (p : ℕ → Bool) (k i : ℕ) : Type 0 where
@@ -164,7 +167,11 @@ pub all_below-at : (n i : ℕ) (p : ℕ → Bool) → all_below n p ≡ true →
 unfolding all_below
 all_below-at zero i p all lt = absurd (omega arith)
 all_below-at (suc n) i p all lt =
-    elim (cases_below i n (omega arith)) [ inl h ↦ all_below-at n i p (and_parts (all_below n p) (p n) all).0 h | inr h ↦ ap p h ∙ (and_parts (all_below n p) (p n) all).1 ]
+    elim (cases_below i n (omega arith)) [
+      | inl h ↦ all_below-at n i p (and_parts (all_below n p) (p n) all).0 h
+      | inr h ↦ ap p h
+          ∙ (and_parts (all_below n p) (p n) all).1
+    ]
 
 -- the numbers below a, and k more from a on
 pub count_below-plus : (a k : ℕ) (p : ℕ → Bool) → count_below (a + k) p ≡ count_below a p + count_below k (λ i. p (a + i))
@@ -235,7 +242,8 @@ list_below-at (suc n) i f d lt =
     ]
 
 -- a list is the values at its places
-pub list_below_is : {A : Type 0} (n : ℕ) (f : ℕ → A) (xs : List A) → length xs ≡ n → ((i : ℕ) (d : A) → i < n → get_or xs i d ≡ f i) → list_below n f ≡ xs
+pub list_below_is : {A : Type 0} (n : ℕ) (f : ℕ → A) (xs : List A) → length xs ≡ n → ((i : ℕ) (d : A) → i < n → get_or xs i d ≡ f i)
+    → list_below n f ≡ xs
 list_below_is n f xs len each =
     same_lists (list_below n f) xs (length-list_below n f ∙ sym len)
     (λ k d lt. let below : k < n = omega (arith, length-list_below n f) in list_below-at n k f d below ∙ sym (each k d below))

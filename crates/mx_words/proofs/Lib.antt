@@ -1,4 +1,5 @@
 pub mod CacheExamples
+pub mod Constants
 pub mod RangeExamples
 pub mod CountingLaws
 pub mod OverlayLaws
@@ -18,3 +19,4 @@ pub mod MapLaws
 pub mod OptionLaws
 pub mod ElementLaws
 pub mod RangeTests
+pub mod SpanLaws

@@ -21,11 +21,14 @@ pub record IsEquality {A : Type 0} (eq : A → A → Bool) : Type 0 where
 replicate-more : {A : Type 0} (n : ℕ) (x : A) → replicate (n + 1) x ≡ x ∷ replicate n x
 replicate-more n x = let e : n + 1 ≡ suc n = omega arith in ap (λ (k : ℕ). replicate k x) e
 
-covered-before : {A : Type 0} (eq : A → A → Bool) → IsEquality eq → (x : A) (rs : List (Run A)) → covered (run_before eq x rs) ≡ x ∷ covered rs
+covered-before : {A : Type 0} (eq : A → A → Bool) → IsEquality eq → (x : A) (rs : List (Run A))
+    → covered (run_before eq x rs) ≡ x ∷ covered rs
 covered-before eq h x [] = refl
 covered-before eq h x (r ∷ rs) = elim (eq x r.value) as
-    (λ b. eq x r.value ≡ b → covered (cond b (record { count = r.count + 1; value = x } ∷ rs) (record { count = 1; value = x } ∷ r ∷ rs)) ≡ x ∷ (replicate r.count r.value ++ covered rs)) [
-      | true ↦ λ e. ap (λ xs. xs ++ covered rs) (replicate-more r.count x) ∙ ap (λ y. x ∷ (replicate r.count y ++ covered rs)) (h.sound x r.value e)
+    (λ b. eq x r.value ≡ b → covered (cond b (record { count = r.count + 1; value = x } ∷ rs) (record { count = 1; value = x } ∷ r ∷ rs))
+    ≡ x ∷ (replicate r.count r.value ++ covered rs)) [
+      | true ↦ λ e. ap (λ xs. xs ++ covered rs) (replicate-more r.count x)
+          ∙ ap (λ y. x ∷ (replicate r.count y ++ covered rs)) (h.sound x r.value e)
       | false ↦ λ e. refl
     ] refl
 
@@ -38,7 +41,8 @@ some-before : {A : Type 0} (eq : A → A → Bool) (x : A) (rs : List (Run A)) �
     AllByRecursion (λ (r : Run A). 0 < r.count) (run_before eq x rs)
 some-before eq x [] p = (omega arith, tt)
 some-before {A} eq x (r ∷ rs) p = elim (eq x r.value) as
-    (λ b. AllByRecursion (λ (q : Run A). 0 < q.count) (cond b (record { count = r.count + 1; value = x } ∷ rs) (record { count = 1; value = x } ∷ r ∷ rs))) [
+    (λ b. AllByRecursion (λ (q : Run A). 0 < q.count) (cond b (record { count = r.count + 1; value = x } ∷ rs)
+    (record { count = 1; value = x } ∷ r ∷ rs))) [
       | true ↦ (omega arith, p.1)
       | false ↦ (omega arith, p)
     ]
@@ -55,10 +59,12 @@ maximal-same : {A : Type 0} (eq : A → A → Bool) (x y : A) (n m : ℕ) (rs : 
 maximal-same eq x y n m [] e p = tt
 maximal-same eq x y n m (r ∷ rs) e p = (ap (λ z. eq z r.value) e ∙ p.0, p.1)
 
-maximal-before : {A : Type 0} (eq : A → A → Bool) → IsEquality eq → (x : A) (rs : List (Run A)) → AreMaximal eq rs → AreMaximal eq (run_before eq x rs)
+maximal-before : {A : Type 0} (eq : A → A → Bool) → IsEquality eq → (x : A) (rs : List (Run A)) → AreMaximal eq rs
+    → AreMaximal eq (run_before eq x rs)
 maximal-before eq h x [] p = tt
 maximal-before eq h x (r ∷ rs) p = elim (eq x r.value) as
-    (λ b. eq x r.value ≡ b → AreMaximal eq (cond b (record { count = r.count + 1; value = x } ∷ rs) (record { count = 1; value = x } ∷ r ∷ rs))) [
+    (λ b. eq x r.value ≡ b → AreMaximal eq (cond b (record { count = r.count + 1; value = x } ∷ rs)
+    (record { count = 1; value = x } ∷ r ∷ rs))) [
       | true ↦ λ e. maximal-same eq x r.value r.count (r.count + 1) rs (h.sound x r.value e) p
       | false ↦ λ e. (e, p)
     ] refl

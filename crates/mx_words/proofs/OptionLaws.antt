@@ -32,6 +32,7 @@ some_of None there = cc
 some_of (Some x) there = (x, refl)
 
 -- what holds of a value, if there is one, after it stays or another of which it holds takes its place
-pub if_some_after : {A : Type 0} (P : A → Type 0) (x : A) (before after : Option A) → (after ≡ before) ⊎ (after ≡ Some x) → P x → IfSome before P → IfSome after P
+pub if_some_after : {A : Type 0} (P : A → Type 0) (x : A) (before after : Option A) → (after ≡ before) ⊎ (after ≡ Some x) → P x
+    → IfSome before P → IfSome after P
 if_some_after P x before after (inl same) here holds = subst (λ (o : Option _). IfSome o P) (sym same) holds
 if_some_after P x before after (inr named) here holds = subst (λ (o : Option _). IfSome o P) (sym named) here

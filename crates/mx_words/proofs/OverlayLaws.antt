@@ -1,5 +1,6 @@
 -- Laws on values laid over lists, by index; and the maps of appended grants and gives.
-use Rattle.std.proofs.Common.{◌≡◌, ℕ, zero, suc, ◌+◌, ◌<◌, ◌≤◌, true, false, cond, List, [], ◌∷◌, ◌++◌, length, get_or, replicate, refl, sym, ◌∙◌, ap, arith, inl, inr}
+use Rattle.std.proofs.Common.{◌≡◌, ℕ, zero, suc, ◌+◌, ◌<◌, ◌≤◌, true, false, cond, List, [], ◌∷◌, ◌++◌, length, get_or, replicate, refl}
+use Rattle.std.proofs.Common.{sym, ◌∙◌, ap, arith, inl, inr}
 use Rattle.std.specs.List.{range_with_len}
 use Rattle.std.specs.Prelude.{map as list_map}
 use Rattle.std.proofs.lemmas.Bool.{cases_lt}
@@ -43,7 +44,8 @@ length-laid_from n e (x ∷ xs) = ap suc (length-laid_from (n + 1) e xs)
 pub length-laid : {A : Type 0} (e : Laid A) (xs : List A) → length (laid e xs) ≡ length xs
 length-laid e xs = length-laid_from 0 e xs
 
-laid_from-at : {A : Type 0} (n i j : ℕ) (e : Laid A) (xs : List A) (d : A) → i < length xs → n + i ≡ j → get_or (laid_from n e xs) i d ≡ laid_at j (get_or xs i d) e
+laid_from-at : {A : Type 0} (n i j : ℕ) (e : Laid A) (xs : List A) (d : A) → i < length xs → n + i ≡ j
+    → get_or (laid_from n e xs) i d ≡ laid_at j (get_or xs i d) e
 laid_from-at n i j e [] d lt sum = absurd (omega arith)
 laid_from-at n zero j e (x ∷ xs) d lt sum = let same : n ≡ j = omega arith in ap (λ k. laid_at k x e) same
 laid_from-at n (suc i) j e (x ∷ xs) d lt sum = laid_from-at (n + 1) i j e xs d (omega arith) (omega arith)
@@ -51,7 +53,8 @@ laid_from-at n (suc i) j e (x ∷ xs) d lt sum = laid_from-at (n + 1) i j e xs d
 pub laid-at : {A : Type 0} (e : Laid A) (xs : List A) (i : ℕ) (d : A) → i < length xs → get_or (laid e xs) i d ≡ laid_at i (get_or xs i d) e
 laid-at e xs i d lt = laid_from-at 0 i i e xs d lt (omega arith)
 
-pub laid_in : {A : Type 0} (e : Laid A) (xs : List A) (i : ℕ) (d : A) → i < length xs → e.first ≤ i → i < e.first + e.count → get_or (laid e xs) i d ≡ e.value
+pub laid_in : {A : Type 0} (e : Laid A) (xs : List A) (i : ℕ) (d : A) → i < length xs → e.first ≤ i → i < e.first + e.count
+    → get_or (laid e xs) i d ≡ e.value
 laid_in e xs i d lt from to = laid-at e xs i d lt ∙ laid_at_in i (get_or xs i d) e from to
 
 pub laid_below : {A : Type 0} (e : Laid A) (xs : List A) (i : ℕ) (d : A) → i < e.first → get_or (laid e xs) i d ≡ get_or xs i d
@@ -69,7 +72,8 @@ laid_behind e xs i d le = elim (cases_lt i (length xs)) [
 ]
 
 -- a list that has these values is the laid one
-pub laid_is : {A : Type 0} (e : Laid A) (xs ys : List A) → length ys ≡ length xs → ((i : ℕ) (d : A) → i < length xs → get_or ys i d ≡ laid_at i (get_or xs i d) e) → ys ≡ laid e xs
+pub laid_is : {A : Type 0} (e : Laid A) (xs ys : List A) → length ys ≡ length xs
+    → ((i : ℕ) (d : A) → i < length xs → get_or ys i d ≡ laid_at i (get_or xs i d) e) → ys ≡ laid e xs
 laid_is e xs ys len each = same_lists ys (laid e xs) (len ∙ sym (length-laid e xs))
     (λ i d lt. let below : i < length xs = omega (arith, len) in each i d below ∙ sym (laid-at e xs i d below))
 
@@ -91,12 +95,14 @@ owners-at gs words i d lt = get_or-map-range_with_len (owner gs) 0 words i i d l
 
 -- one more grant, or give, is laid over what the earlier ones gave
 pub map-append : (gs : List Grant) (g : Grant) (words : ℕ) → map (gs ++ g ∷ []) words ≡ laid g (map gs words)
-map-append gs g words = laid_is g (map gs words) (map (gs ++ g ∷ []) words) (length-map_of (gs ++ g ∷ []) words ∙ sym (length-map_of gs words))
+map-append gs g words = laid_is g (map gs words) (map (gs ++ g ∷ []) words) (length-map_of (gs ++ g ∷ []) words
+    ∙ sym (length-map_of gs words))
     (λ i d lt. let below : i < words = omega (arith, length-map_of gs words) in
     map-at (gs ++ g ∷ []) words i d below ∙ newest-append P.None gs g i ∙ ap (λ p. laid_at i p g) (sym (map-at gs words i d below)))
 
 pub owners-append : (gs : List Give) (g : Give) (words : ℕ) → owners (gs ++ g ∷ []) words ≡ laid g (owners gs words)
-owners-append gs g words = laid_is g (owners gs words) (owners (gs ++ g ∷ []) words) (length-owners (gs ++ g ∷ []) words ∙ sym (length-owners gs words))
+owners-append gs g words = laid_is g (owners gs words) (owners (gs ++ g ∷ []) words) (length-owners (gs ++ g ∷ []) words
+    ∙ sym (length-owners gs words))
     (λ i d lt. let below : i < words = omega (arith, length-owners gs words) in
     owners-at (gs ++ g ∷ []) words i d below ∙ newest-append 0 gs g i ∙ ap (λ p. laid_at i p g) (sym (owners-at gs words i d below)))
 

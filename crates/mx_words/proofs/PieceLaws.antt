@@ -1,5 +1,6 @@
 -- A list in pieces, by the number of the piece.
-use Rattle.std.proofs.Common.{◌≡◌, ℕ, zero, suc, ◌+◌, ◌-◌, ◌*◌, ◌<◌, ◌≤◌, Bool, true, false, List, [], ◌∷◌, length, take, drop, refl, sym, ap, ◌∙◌, arith, length-drop, add-one}
+use Rattle.std.proofs.Common.{◌≡◌, ℕ, zero, suc, ◌+◌, ◌-◌, ◌*◌, ◌<◌, ◌≤◌, Bool, true, false, List, [], ◌∷◌, length, take, drop, refl, sym}
+use Rattle.std.proofs.Common.{ap, ◌∙◌, arith, length-drop, add-one}
 use Rattle.std.proofs.lemmas.Bool.{and_from, and_parts}
 use Rattle.std.proofs.Math.Nat.{suc-mul}
 use Rattle.std.proofs.lemmas.List.{drop-drop}
@@ -62,13 +63,15 @@ count_pieces size f some none (suc k) [] short =
 count_pieces size f some none (suc k) (x ∷ xs) short =
     let rest = count_pieces size f some none k (drop size (x ∷ xs)) (rest-short size k (x ∷ xs) short) in
     let first : count_by f (pieces size (x ∷ xs)) ≡ bit (f (take size (x ∷ xs))) + count_by f (pieces size (drop size (x ∷ xs))) =
-    ap (count_by f) (pieces-first size x xs some) ∙ sum_by-cons (λ ys. bit (f ys)) (take size (x ∷ xs)) (pieces size (drop size (x ∷ xs))) in
+    ap (count_by f) (pieces-first size x xs some) ∙ sum_by-cons (λ ys. bit (f ys)) (take size (x ∷ xs)) (pieces size (drop size (x ∷ xs)))
+    in
     let here : bit (f (piece size (x ∷ xs) 0)) ≡ bit (f (take size (x ∷ xs))) = ap (λ ys. bit (f ys)) (piece-zero size (x ∷ xs)) in
     let shift : count_below k (λ j. f (piece size (drop size (x ∷ xs)) j)) ≡ count_below k (λ j. f (piece size (x ∷ xs) (j + 1))) =
     count_below_agree k (λ j. f (piece size (drop size (x ∷ xs)) j)) (λ j. f (piece size (x ∷ xs) (j + 1)))
     (λ j below. rw add-one (ap f (piece-next size (x ∷ xs) j))) in
     let whole = count_below_first k (λ j. f (piece size (x ∷ xs) j)) in
-    let w : count_below (suc k) (λ j. f (piece size (x ∷ xs) j)) ≡ bit (f (piece size (x ∷ xs) 0)) + count_below k (λ j. f (piece size (x ∷ xs) (j + 1))) =
+    let w : count_below (suc k) (λ j. f (piece size (x ∷ xs) j)) ≡ bit (f (piece size (x ∷ xs) 0))
+    + count_below k (λ j. f (piece size (x ∷ xs) (j + 1))) =
     rw add-one at whole in
     omega (arith, rest, first, here, shift, w)
 
@@ -78,11 +81,13 @@ pub all_pieces-at : {A : Type 0} (size : ℕ) (f : List A → Bool) → 0 < size
 all_pieces-at size f some none j [] all = ap f (piece-none size j) ∙ none
 all_pieces-at size f some none zero (x ∷ xs) all =
     ap f (piece-zero size (x ∷ xs))
-    ∙ (and_parts (f (take size (x ∷ xs))) (list_all f (pieces size (drop size (x ∷ xs)))) (ap (list_all f) (sym (pieces-first size x xs some)) ∙ all)).0
+    ∙ (and_parts (f (take size (x ∷ xs))) (list_all f (pieces size (drop size (x ∷ xs))))
+    (ap (list_all f) (sym (pieces-first size x xs some)) ∙ all)).0
 all_pieces-at size f some none (suc j) (x ∷ xs) all =
     ap f (sym (piece-next size (x ∷ xs) j))
     ∙ all_pieces-at size f some none j (drop size (x ∷ xs))
-    (and_parts (f (take size (x ∷ xs))) (list_all f (pieces size (drop size (x ∷ xs)))) (ap (list_all f) (sym (pieces-first size x xs some)) ∙ all)).1
+    (and_parts (f (take size (x ∷ xs))) (list_all f (pieces size (drop size (x ∷ xs)))) (ap (list_all f) (sym (pieces-first size x xs some))
+    ∙ all)).1
 
 pub all_pieces_are : {A : Type 0} (size : ℕ) (f : List A → Bool) → 0 < size → (k : ℕ) (xs : List A) → length xs ≤ k * size →
     ((j : ℕ) → j < k → f (piece size xs j) ≡ true) → list_all f (pieces size xs) ≡ true

@@ -12,7 +12,8 @@ use Rattle.mx_words.specs.Changes.{changed_maps, granted_all}
 use Rattle.mx_words.specs.FirstFit.{Area, place, with_block, without_block, block_words}
 use Rattle.mx_words.specs.FirstRow.{first_row}
 use Rattle.mx_words.specs.Hearing.{is_in, nobody, with_hearer, heard_range, unheard_range, forbids_keeping, lets_pass}
-use Rattle.mx_words.specs.Limits.{most_modules, most_domains, most_harts, most_gates, most_frames, most_kept, most_blocks, most_owner_runs, most_bytes}
+use Rattle.mx_words.specs.Limits.{most_modules, most_domains, most_harts, most_gates, most_frames, most_kept, most_blocks, most_owner_runs}
+use Rattle.mx_words.specs.Limits.{most_written}
 use Rattle.mx_words.specs.Newest.{Laid, Grant, at, map, owners, laid}
 use Rattle.mx_words.specs.Ranges.{most_words, address_of, covers, overlaps, in_ram, word_of, word_range, range_words}
 use Rattle.mx_words.specs.Rights.{number, from_number, same, allows, perm, denies}
@@ -22,7 +23,7 @@ use Rattle.mx_words.specs.Starts.{is_start, is_owner_start}
 limits : most_modules ∷ most_domains ∷ most_harts ∷ most_gates ∷ most_frames ∷ most_kept ∷ [] ≡ 63 ∷ 64 ∷ 4 ∷ 256 ∷ 64 ∷ 64 ∷ []
 limits = refl
 
-more-limits : most_blocks ∷ most_owner_runs ∷ most_bytes ∷ [] ≡ 1024 ∷ 4096 ∷ 4096 ∷ []
+more-limits : most_blocks ∷ most_owner_runs ∷ most_written ∷ [] ≡ 1024 ∷ 4096 ∷ 4096 ∷ []
 more-limits = refl
 
 -- addresses: RAM of 17 words ends before 0x80000044
@@ -32,7 +33,8 @@ greatest-ram = refl
 addresses : list_map address_of (0 ∷ 1 ∷ 5 ∷ 16 ∷ []) ≡ 0x80000000 ∷ 0x80000004 ∷ 0x80000014 ∷ 0x80000040 ∷ []
 addresses = refl
 
-words-of-addresses : list_map (λ a. word_of a 17) (0x7FFFFFFF ∷ 0x80000000 ∷ 0x80000003 ∷ 0x80000004 ∷ 0x80000043 ∷ 0x80000044 ∷ 0xFFFFFFFF ∷ [])
+words-of-addresses : list_map (λ a. word_of a 17) (0x7FFFFFFF ∷ 0x80000000 ∷ 0x80000003 ∷ 0x80000004 ∷ 0x80000043 ∷ 0x80000044 ∷ 0xFFFFFFFF
+    ∷ [])
     ≡ Nothing ∷ Some 0 ∷ Some 0 ∷ Some 1 ∷ Some 16 ∷ Nothing ∷ Nothing ∷ []
 words-of-addresses = refl
 
@@ -41,7 +43,8 @@ inside-ram = refl
 
 -- ranges: no bytes; from no multiple of 4; from below RAM; to RAM's end and past it; words rounded up
 ranges : list_map (λ (r : ℕ × ℕ). word_range r.0 r.1 17)
-    ((0x80000000, 0) ∷ (0x80000002, 4) ∷ (0x7FFFFFFC, 8) ∷ (0x80000000, 68) ∷ (0x80000000, 69) ∷ (0x80000040, 4) ∷ (0x80000040, 5) ∷ (0x80000004, 1) ∷ (0x80000004, 5)
+    ((0x80000000, 0) ∷ (0x80000002, 4) ∷ (0x7FFFFFFC, 8) ∷ (0x80000000, 68) ∷ (0x80000000, 69) ∷ (0x80000040, 4) ∷ (0x80000040, 5)
+    ∷ (0x80000004, 1) ∷ (0x80000004, 5)
     ∷ (0xFFFFFFFC, 8) ∷ [])
     ≡ Nothing ∷ Nothing ∷ Nothing ∷ Some (0, 17) ∷ Nothing ∷ Some (16, 1) ∷ Nothing ∷ Some (1, 1) ∷ Some (1, 2) ∷ Nothing ∷ []
 ranges = refl
@@ -84,7 +87,8 @@ perms : list_map (perm (Read ∷ ReadWrite ∷ ExecuteRead ∷ [])) (0x7FFFFFFF 
     ≡ None ∷ Read ∷ ReadWrite ∷ ExecuteRead ∷ None ∷ []
 perms = refl
 
-denied : list_map (λ a. denies (perm (Read ∷ ReadWrite ∷ [])) a A.Write) (0x80000000 ∷ 0x80000004 ∷ 0x80000008 ∷ []) ≡ true ∷ false ∷ true ∷ []
+denied : list_map (λ a. denies (perm (Read ∷ ReadWrite ∷ [])) a A.Write) (0x80000000 ∷ 0x80000004 ∷ 0x80000008 ∷ []) ≡ true ∷ false ∷ true
+    ∷ []
 denied = refl
 
 -- the newest grant decides; a word of no grant has no permission, and one of no give the owner 0
@@ -107,7 +111,8 @@ beyond = refl
 abbrev given : ℕ → Option Perm
 given d = if d == 2 then Some ReadWrite else if d == 3 then Some None else Nothing
 
-changed : changed_maps 1 2 given ((Read ∷ Read ∷ Read ∷ Read ∷ []) ∷ (Read ∷ Read ∷ Read ∷ Read ∷ []) ∷ (Read ∷ Read ∷ Read ∷ Read ∷ []) ∷ [])
+changed : changed_maps 1 2 given ((Read ∷ Read ∷ Read ∷ Read ∷ []) ∷ (Read ∷ Read ∷ Read ∷ Read ∷ []) ∷ (Read ∷ Read ∷ Read ∷ Read ∷ [])
+    ∷ [])
     ≡ (Read ∷ Read ∷ Read ∷ Read ∷ []) ∷ (Read ∷ ReadWrite ∷ ReadWrite ∷ Read ∷ []) ∷ (Read ∷ None ∷ None ∷ Read ∷ []) ∷ []
 changed = refl
 
@@ -148,7 +153,8 @@ places-behind = refl
 whole-area : list_map (place area []) (10 ∷ 11 ∷ []) ≡ Some 100 ∷ Nothing ∷ []
 whole-area = refl
 
-between-two : place area (block 102 2 ∷ []) 2 ∷ place area (block 100 2 ∷ block 102 2 ∷ []) 2 ∷ place area (block 100 2 ∷ block 102 2 ∷ []) 7 ∷ []
+between-two : place area (block 102 2 ∷ []) 2 ∷ place area (block 100 2 ∷ block 102 2 ∷ []) 2
+    ∷ place area (block 100 2 ∷ block 102 2 ∷ []) 7 ∷ []
     ≡ Some 100 ∷ Some 104 ∷ Nothing ∷ []
 between-two = refl
 
@@ -169,7 +175,8 @@ words-of-blocks : list_map (block_words (block 100 2 ∷ block 104 1 ∷ [])) (1
 words-of-blocks = refl
 
 -- the first row that applies says it
-first-rows : list_map (λ (rows : List (Bool × ℕ)). first_row rows) (((false, 1) ∷ (true, 2) ∷ (true, 3) ∷ []) ∷ ((false, 1) ∷ []) ∷ [] ∷ []) ≡ Some 2 ∷ Nothing ∷ Nothing ∷ []
+first-rows : list_map (λ (rows : List (Bool × ℕ)). first_row rows) (((false, 1) ∷ (true, 2) ∷ (true, 3) ∷ []) ∷ ((false, 1) ∷ []) ∷ [] ∷ [])
+    ≡ Some 2 ∷ Nothing ∷ Nothing ∷ []
 first-rows = refl
 
 -- calls 3, 4, 6 and 7 are announced; 3 and 4 with the range of a0 and a1, 6 and 7 with the heap area
@@ -200,7 +207,8 @@ unheard-ranges : list_map (λ h. unheard_range h (false ∷ true ∷ []) (5, 3))
 unheard-ranges = refl
 
 -- hart 1 has heard a call on words 5 to 7, and hart 0 hasn't: spans of words 7 to 8, and of word 8
-barred : list_map (λ (p : ℕ × ℕ). forbids_keeping p.0 (false ∷ true ∷ []) (5, 3) (record { first = p.1; count = 9 - p.1; perm = Read })) ((0, 7) ∷ (1, 7) ∷ (1, 8) ∷ [])
+barred : list_map (λ (p : ℕ × ℕ). forbids_keeping p.0 (false ∷ true ∷ []) (5, 3) (record { first = p.1; count = 9 - p.1; perm = Read }))
+    ((0, 7) ∷ (1, 7) ∷ (1, 8) ∷ [])
     ≡ false ∷ true ∷ false ∷ []
 barred = refl
 

@@ -3,11 +3,14 @@ use Rattle.std.proofs.Common.{◌≡◌, ℕ, zero, suc, ◌+◌, ◌<◌, ◌�
 use Rattle.std.specs.List.{list_all, range_with_len}
 use Rattle.std.proofs.lemmas.Bool.{and_parts, and_from, cases_lt}
 
-pub all_pass : (test : ℕ → Bool) (first count : ℕ) → ((i : ℕ) → first ≤ i → i < first + count → test i ≡ true) → list_all test (range_with_len first count) ≡ true
+pub all_pass : (test : ℕ → Bool) (first count : ℕ) → ((i : ℕ) → first ≤ i → i < first + count → test i ≡ true)
+    → list_all test (range_with_len first count) ≡ true
 all_pass test first zero each = refl
-all_pass test first (suc count) each = and_from _ _ (each first (omega arith) (omega arith)) (all_pass test (first + 1) count (λ i le lt. each i (omega arith) (omega arith)))
+all_pass test first (suc count) each = and_from _ _ (each first (omega arith) (omega arith))
+    (all_pass test (first + 1) count (λ i le lt. each i (omega arith) (omega arith)))
 
-pub each_passes : (test : ℕ → Bool) (first count : ℕ) → list_all test (range_with_len first count) ≡ true → (i : ℕ) → first ≤ i → i < first + count → test i ≡ true
+pub each_passes : (test : ℕ → Bool) (first count : ℕ) → list_all test (range_with_len first count) ≡ true → (i : ℕ) → first ≤ i
+    → i < first + count → test i ≡ true
 each_passes test first zero all i le lt = absurd (omega arith)
 each_passes test first (suc count) all i le lt =
     let parts = and_parts _ _ all in

@@ -1,5 +1,6 @@
 -- Laws of maximal runs: their number is that of their first places, and the span round a word.
-use Rattle.std.proofs.Common.{◌≡◌, ℕ, zero, suc, ◌+◌, ◌-◌, ◌<◌, ◌≤◌, Bool, true, false, cond, not, ◌==◌, ◌||◌, List, [], ◌∷◌, length, get_or, drop, slice_range, refl, sym, ◌∙◌, ap, arith, length-take, length-drop, get_or-take, get_or-drop}
+use Rattle.std.proofs.Common.{◌≡◌, ℕ, zero, suc, ◌+◌, ◌-◌, ◌<◌, ◌≤◌, Bool, true, false, cond, not, ◌==◌, ◌||◌, List, [], ◌∷◌, length}
+use Rattle.std.proofs.Common.{get_or, drop, slice_range, refl, sym, ◌∙◌, ap, arith, length-take, length-drop, get_or-take, get_or-drop}
 use Rattle.std.proofs.lemmas.Bool.{not-false}
 use Rattle.std.proofs.lemmas.Bool.Decides.{nat_tests}
 use Rattle.std.specs.List.{prefix_len, suffix_len}
@@ -47,7 +48,9 @@ module _ {A : Type 0} (eq : A → A → Bool) (default : A) where
   runs_before : (x y : A) (ys : List A) → length (runs_of eq (x ∷ y ∷ ys)) ≡ bit (not (eq x y)) + length (runs_of eq (y ∷ ys))
   runs_before x y ys = by (runs_of eq ys)
     where
-      at_run : (c : ℕ) (v : A) (rs : List (Run A)) (b : Bool) → length (cond b (record { count = c + 1; value = x } ∷ rs) (record { count = 1; value = x } ∷ record { count = c; value = v } ∷ rs)) ≡ bit (not b) + suc (length rs)
+      at_run : (c : ℕ) (v : A) (rs : List (Run A)) (b : Bool)
+          → length (cond b (record { count = c + 1; value = x } ∷ rs)
+          (record { count = 1; value = x } ∷ record { count = c; value = v } ∷ rs)) ≡ bit (not b) + suc (length rs)
       at_run c v rs true = omega arith
       at_run c v rs false = omega arith
 
@@ -55,7 +58,9 @@ module _ {A : Type 0} (eq : A → A → Bool) (default : A) where
       by [] = at_run 1 y [] (eq x y)
       by (r ∷ rs) = by_eq (eq y r.value)
         where
-          by_eq : (b : Bool) → length (run_before eq x (cond b (record { count = r.count + 1; value = y } ∷ rs) (record { count = 1; value = y } ∷ r ∷ rs))) ≡ bit (not (eq x y)) + length (cond b (record { count = r.count + 1; value = y } ∷ rs) (record { count = 1; value = y } ∷ r ∷ rs))
+          by_eq : (b : Bool) → length (run_before eq x (cond b (record { count = r.count + 1; value = y } ∷ rs)
+              (record { count = 1; value = y } ∷ r ∷ rs))) ≡ bit (not (eq x y))
+              + length (cond b (record { count = r.count + 1; value = y } ∷ rs) (record { count = 1; value = y } ∷ r ∷ rs))
           by_eq true = at_run (r.count + 1) y rs (eq x y)
           by_eq false = at_run 1 y (r ∷ rs) (eq x y)
 
@@ -64,7 +69,8 @@ module _ {A : Type 0} (eq : A → A → Bool) (default : A) where
   begins_behind xs i =
       let far : (i + 1 == 0) ≡ false = grind (arith, nat_tests) in
       let back : i + 1 - 1 ≡ i = omega arith in
-      ap (λ b. b || not (eq (get_or xs (i + 1 - 1) default) (get_or xs (i + 1) default))) far ∙ ap (λ j. not (eq (get_or xs j default) (get_or xs (i + 1) default))) back
+      ap (λ b. b || not (eq (get_or xs (i + 1 - 1) default) (get_or xs (i + 1) default))) far
+      ∙ ap (λ j. not (eq (get_or xs j default) (get_or xs (i + 1) default))) back
 
   begins_shifted : (x y : A) (ys : List A) (i : ℕ) → begins eq default (x ∷ y ∷ ys) (i + 1 + 1) ≡ begins eq default (y ∷ ys) (i + 1)
   begins_shifted x y ys i =
@@ -80,7 +86,8 @@ module _ {A : Type 0} (eq : A → A → Bool) (default : A) where
   pub length-runs_of : (xs : List A) → length (runs_of eq xs) ≡ count_below (length xs) (λ i. begins eq default xs i)
   length-runs_of [] = sym (count_below-zero (λ i. begins eq default [] i))
   length-runs_of (x ∷ []) =
-      let e : count_below 1 (λ i. begins eq default (x ∷ []) i) ≡ 1 = count_below-suc 0 (λ i. begins eq default (x ∷ []) i) ∙ ap (λ n. n + 1) (count_below-zero (λ i. begins eq default (x ∷ []) i)) in
+      let e : count_below 1 (λ i. begins eq default (x ∷ []) i) ≡ 1 = count_below-suc 0 (λ i. begins eq default (x ∷ []) i)
+      ∙ ap (λ n. n + 1) (count_below-zero (λ i. begins eq default (x ∷ []) i)) in
       sym e
   length-runs_of (x ∷ y ∷ ys) = joined (length-runs_of (y ∷ ys))
     where
@@ -90,14 +97,16 @@ module _ {A : Type 0} (eq : A → A → Bool) (default : A) where
           let old = count_below_first (length ys) (λ i. begins eq default (y ∷ ys) i) in
           let new = count_below_first (suc (length ys)) (λ i. begins eq default (x ∷ y ∷ ys) i) in
           let new' = count_below_first (length ys) (λ i. begins eq default (x ∷ y ∷ ys) (i + 1)) in
-          let behind = count_below_agree (length ys) (λ i. begins eq default (x ∷ y ∷ ys) (i + 1 + 1)) (λ i. begins eq default (y ∷ ys) (i + 1)) (λ i lt. begins_shifted x y ys i) in
+          let behind = count_below_agree (length ys) (λ i. begins eq default (x ∷ y ∷ ys) (i + 1 + 1)) (λ i.
+          begins eq default (y ∷ ys) (i + 1)) (λ i lt. begins_shifted x y ys i) in
           let second : bit (begins eq default (x ∷ y ∷ ys) (0 + 1)) ≡ bit (not (eq x y)) = ap bit (begins_behind (x ∷ y ∷ ys) 0) in
           let one : length ys + 1 ≡ suc (length ys) = omega arith in
           let two : suc (length ys) + 1 ≡ suc (suc (length ys)) = omega arith in
           let old_one = ap (λ n. count_below n (λ i. begins eq default (y ∷ ys) i)) one in
           let new_two = ap (λ n. count_below n (λ i. begins eq default (x ∷ y ∷ ys) i)) two in
           let new_one = ap (λ n. count_below n (λ i. begins eq default (x ∷ y ∷ ys) (i + 1))) one in
-          let goal : bit (not (eq x y)) + length (runs_of eq (y ∷ ys)) ≡ count_below (suc (suc (length ys))) (λ i. begins eq default (x ∷ y ∷ ys) i) =
+          let goal : bit (not (eq x y)) + length (runs_of eq (y ∷ ys))
+          ≡ count_below (suc (suc (length ys))) (λ i. begins eq default (x ∷ y ∷ ys) i) =
           omega (arith, rest, old, new, new', behind, second, old_one, new_two, new_one) in
           runs_before x y ys ∙ goal
 
@@ -112,7 +121,8 @@ pub is_start-behind : (m : List Perm) (i : ℕ) → is_start m (i + 1) ≡ not (
 is_start-behind m i = begins_behind same P.None m i
 
 pub no_start_same : (m : List Perm) (i : ℕ) → is_start m (i + 1) ≡ false → perm_at m i ≡ perm_at m (i + 1)
-no_start_same m i e = same_eq (perm_at m i) (perm_at m (i + 1)) (not-false (same (perm_at m i) (perm_at m (i + 1))) (sym (is_start-behind m i) ∙ e))
+no_start_same m i e = same_eq (perm_at m i) (perm_at m (i + 1))
+    (not-false (same (perm_at m i) (perm_at m (i + 1))) (sym (is_start-behind m i) ∙ e))
 
 -- where no run begins after word i up to word j, they have one permission
 pub no_start_between : (m : List Perm) (i k : ℕ) → ((x : ℕ) → i < x → x ≤ i + k → is_start m x ≡ false) → perm_at m i ≡ perm_at m (i + k)
@@ -170,7 +180,8 @@ left_length m low high first behind i fits r =
     let len = length-slice m low i within in
     let test = same (perm_at m i) in
     let passes : (k : ℕ) → first - low ≤ k → k < length (slice_range m low i) → test (get_or (slice_range m low i) k P.None) ≡ true =
-    λ k le lt. ap test (slice-at m low i k (omega (arith, len))) ∙ same_from (perm_at m i) (perm_at m (low + k)) (r.inside (low + k) (omega arith) (omega (arith, len))) in
+    λ k le lt. ap test (slice-at m low i k (omega (arith, len)))
+    ∙ same_from (perm_at m i) (perm_at m (low + k)) (r.inside (low + k) (omega arith) (omega (arith, len))) in
     let stops : 0 < first - low → test (get_or (slice_range m low i) (first - low - 1) P.None) ≡ false =
     λ lt. let e : low + (first - low - 1) ≡ first - 1 = omega arith in
     ap test (slice-at m low i (first - low - 1) (omega arith) ∙ ap (perm_at m) e) ∙ r.before (omega arith) in
@@ -184,7 +195,8 @@ right_length m low high first behind i fits r =
     let len = length-slice m i high fits in
     let test = same (perm_at m i) in
     let passes : (k : ℕ) → k < behind - i → test (get_or (slice_range m i high) k P.None) ≡ true =
-    λ k lt. ap test (slice-at m i high k (omega arith)) ∙ same_from (perm_at m i) (perm_at m (i + k)) (r.inside (i + k) (omega arith) (omega arith)) in
+    λ k lt. ap test (slice-at m i high k (omega arith)) ∙ same_from (perm_at m i) (perm_at m (i + k))
+    (r.inside (i + k) (omega arith) (omega arith)) in
     let stops : behind - i < length (slice_range m i high) → test (get_or (slice_range m i high) (behind - i) P.None) ≡ false =
     λ lt. let e : i + (behind - i) ≡ behind = omega arith in
     ap test (slice-at m i high (behind - i) (omega (arith, len)) ∙ ap (perm_at m) e) ∙ r.after (omega (arith, len)) in
@@ -199,7 +211,8 @@ span_within_is m low high first behind i fits r =
     let left = r.left in let right = r.right in
     let at_first : i - (i - first) ≡ first = omega arith in
     let long : (i - first) + (behind - i) ≡ behind - first = omega arith in
-    ap (λ n. span_of (perm_at m i) i n (prefix_len (same (perm_at m i)) (slice_range m i high))) (left_length m low high first behind i fits r)
+    ap (λ n. span_of (perm_at m i) i n (prefix_len (same (perm_at m i)) (slice_range m i high)))
+    (left_length m low high first behind i fits r)
     ∙ ap (span_of (perm_at m i) i (i - first)) (right_length m low high first behind i fits r)
     ∙ ap (λ n. record { first = n; count = (i - first) + (behind - i); perm = perm_at m i }) at_first
     ∙ ap (λ n. record { first = first; count = n; perm = perm_at m i }) long

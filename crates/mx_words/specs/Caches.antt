@@ -1,6 +1,7 @@
 -- The caches of a hart, and what a check does to them. Nothing but counts is read of them: they decide no right.
 -- The rules: docs/MACHINE.md, "Checks and counts".
-use Rattle.std.specs.Prelude.{ℕ, ◌+◌, ◌-◌, ◌^◌, Bool, true, false, not, nat_lt, ◌==◌, ◌&&◌, List, [], ◌∷◌, take, replicate, filter, find, slice_set, slice_index_or, if◌then◌else◌, Option, Some, None}
+use Rattle.std.specs.Prelude.{ℕ, ◌+◌, ◌-◌, ◌^◌, Bool, true, false, not, nat_lt, ◌==◌, ◌&&◌, List, [], ◌∷◌, take, replicate, filter, find}
+use Rattle.std.specs.Prelude.{slice_set, slice_index_or, if◌then◌else◌, Option, Some, None}
 use Rattle.std.specs.Prelude.{map as list_map}
 use Rattle.std.specs.Option.{option_map_or}
 use Rattle.mx_words.specs.declared.perm.Span.{Span}

@@ -1,28 +1,27 @@
--- The numbers of supervisor calls that definitions name. The code's constants are these: src/calls.rt.
+-- The numbers of supervisor calls that definitions name. The code's constants are equal to these: proofs/Constants.
 -- The rules: docs/MACHINE.md, "Supervisor calls".
 use Rattle.std.specs.Prelude.{ℕ}
-use Rattle.mx_words.specs.declared.calls.TheConstants.{WRITE_CALL, GRANT_CALL, REVOKE_ALL_CALL, ALLOC_CALL, FREE_CALL, EXCHANGE_CALL}
 
 -- bytes for the console
 abbrev pub write_call : ℕ
-write_call = WRITE_CALL
+write_call = 2
 
 -- a permission for one module
 abbrev pub grant_call : ℕ
-grant_call = GRANT_CALL
+grant_call = 3
 
 -- no right for any other module
 abbrev pub revoke_all_call : ℕ
-revoke_all_call = REVOKE_ALL_CALL
+revoke_all_call = 4
 
 -- a block of the caller's heap area
 abbrev pub alloc_call : ℕ
-alloc_call = ALLOC_CALL
+alloc_call = 6
 
 -- the end of a block
 abbrev pub free_call : ℕ
-free_call = FREE_CALL
+free_call = 7
 
 -- a word for another
 abbrev pub exchange_call : ℕ
-exchange_call = EXCHANGE_CALL
+exchange_call = 13

@@ -1,6 +1,7 @@
 -- First fit: the lowest place for a block in a heap area.
 -- The rules: docs/MACHINE.md, "Supervisor calls".
-use Rattle.std.specs.Prelude.{ℕ, ◌+◌, ◌<◌, ◌≤◌, Bool, not, ◌&&◌, ◌==◌, nat_lt, nat_le, List, [], ◌∷◌, filter, find, Option, option_map, if◌then◌else◌}
+use Rattle.std.specs.Prelude.{ℕ, ◌+◌, ◌<◌, ◌≤◌, Bool, not, ◌&&◌, ◌==◌, nat_lt, nat_le, List, [], ◌∷◌, filter, find, Option, option_map}
+use Rattle.std.specs.Prelude.{if◌then◌else◌}
 use Rattle.std.specs.List.{list_any, range_with_len}
 use Rattle.mx_words.specs.Ranges.{overlaps}
 -- how many live blocks a heap has at most

@@ -1,6 +1,7 @@
 -- Calls in flight, as the other harts hear them. A set of harts has a place for each of the four.
 -- The rules: docs/MACHINE.md, "Announced calls".
-use Rattle.std.specs.Prelude.{ℕ, Bool, true, false, ◌==◌, ◌&&◌, ◌||◌, List, replicate, slice_index_or, slice_set, if◌then◌else◌, Option, Some, None}
+use Rattle.std.specs.Prelude.{ℕ, Bool, true, false, ◌==◌, ◌&&◌, ◌||◌, List, replicate, slice_index_or, slice_set, if◌then◌else◌, Option}
+use Rattle.std.specs.Prelude.{Some, None}
 use Rattle.mx_words.specs.declared.perm.Span.{Span}
 pub use Rattle.mx_words.specs.Limits.{most_harts}
 use Rattle.mx_words.specs.Caches.{meets}

@@ -9,6 +9,7 @@ pub mod Blocks
 pub mod Need
 pub mod Reach
 pub mod Caches
+pub mod KeptSpans
 pub mod Hearing
 pub mod FirstRow
 pub mod FirstFit

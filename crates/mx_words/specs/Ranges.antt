@@ -1,13 +1,12 @@
 -- Ranges of RAM words, and the addresses of words. Word i has the address 0x80000000 + 4 i.
 -- The rules: docs/MACHINE.md, "Memory, domains, harts" and "Supervisor calls".
 use Rattle.std.specs.Prelude.{ℕ, ◌+◌, ◌-◌, ◌*◌, ◌/◌, ◌%◌, Bool, ◌==◌, ◌&&◌, nat_lt, nat_le, if◌then◌else◌, Option, Some, None, unwrap_or}
-use Rattle.mx_words.specs.declared.ranges.TheConstants.{RAM_BASE}
 -- the greatest number of words of a RAM
 pub use Rattle.mx_words.specs.Limits.{most_words}
 
 -- the address of RAM's first byte
 abbrev pub ram_base : ℕ
-ram_base = RAM_BASE
+ram_base = 0x80000000
 
 -- the address of a word
 abbrev pub address_of : ℕ → ℕ

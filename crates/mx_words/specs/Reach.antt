@@ -1,6 +1,7 @@
 -- What a walk of the tables answers for a word, and the stored item that decides it. Both are functions of the map.
 -- The rules: docs/MACHINE.md, "What a walk answers, and what is stored".
-use Rattle.std.specs.Prelude.{ℕ, ◌+◌, ◌-◌, ◌*◌, ◌/◌, ◌^◌, Bool, true, ◌==◌, min, List, [], ◌∷◌, length, take, drop, slice_range, slice_index, if◌then◌else◌}
+use Rattle.std.specs.Prelude.{ℕ, ◌+◌, ◌-◌, ◌*◌, ◌/◌, ◌^◌, Bool, true, ◌==◌, min, List, [], ◌∷◌, length, take, drop, slice_range}
+use Rattle.std.specs.Prelude.{slice_index, if◌then◌else◌}
 use Rattle.std.specs.Prelude.{map as list_map}
 use Rattle.std.specs.List.{prefix_len, suffix_len, range_with_len}
 use Rattle.mx_words.specs.declared.perm.Perm.{Perm}

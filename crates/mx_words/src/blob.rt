@@ -1,5 +1,6 @@
 //! A list of bytes.
-ghost use Rattle.std.specs.Prelude.{◌≡◌, ◌+◌, ◌<◌, ◌≤◌, ◌^◌, ◌++◌, [], ◌∷◌, List, length, IfOk, OnOk, OnErr, slice_index, ℕ};
+ghost use Rattle.std.specs.Prelude.{◌≡◌, ◌+◌, ◌<◌, ◌≤◌, ◌^◌, ◌++◌, [], ◌∷◌, List, length, IfOk, OnOk, OnErr};
+ghost use Rattle.std.specs.Prelude.{slice_index, ℕ};
 
 use crate::NoMemory;
 use std::alloc::Global;

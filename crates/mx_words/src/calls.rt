@@ -1,5 +1,6 @@
-//! The numbers of those supervisor calls that code and definitions name by number, which they share: the definitions name them in
-//! specs/Calls.
+//! The numbers of those supervisor calls that code and definitions name by number. They are the definitions'
+//! (specs/Calls), by
+//! proofs/Constants.
 
 /// The number of the call that writes to the console.
 pub const WRITE_CALL: u32 = 2;

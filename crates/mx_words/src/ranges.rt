@@ -5,7 +5,8 @@ ghost use Rattle.mx_words.specs.Ranges.{most_words, word_of, word_range};
 /// The address of RAM's first byte.
 pub const RAM_BASE: u32 = 0x8000_0000;
 
-/// The number of the word that holds an address, in a RAM of `words` words, at most `MOST_WORDS`. `None` exactly outside RAM.
+/// The number of the word that holds an address, in a RAM of `words` words, at most `MOST_WORDS`. `None` exactly
+/// outside RAM.
 pub fn word_of(addr: u32, words: u32) -> Option<u32>
     requires { words ≤ most_words }
     ensures { result ≡ word_of addr words }
@@ -15,8 +16,10 @@ pub fn word_of(addr: u32, words: u32) -> Option<u32>
     if word < words { Some(word) } else { None }
 }
 
-/// The words that the `len` bytes from `addr` on touch, as the first word and their number, in a RAM of `words` words, at most
-/// `MOST_WORDS`. `None` exactly where there are no bytes, `addr` is no multiple of 4, or a byte lies outside RAM or past 2^32.
+/// The words that the `len` bytes from `addr` on touch, as the first word and their number, in a RAM of `words` words,
+/// at most
+/// `MOST_WORDS`. `None` exactly where there are no bytes, `addr` is no multiple of 4, or a byte lies outside RAM or
+/// past 2^32.
 pub fn word_range(addr: u32, len: u32, words: u32) -> Option<(u32, u32)>
     requires { words ≤ most_words }
     ensures { result ≡ word_range addr len words }

@@ -4,8 +4,7 @@ ghost use Rattle.std.specs.Prelude.{◌≤◌};
 ghost use Rattle.mx_words.specs.Limits.{most_kept};
 
 use arrayvec::ArrayVec;
-use mx_lookaside::Lookaside;
-use mx_sidecar::Sidecars;
+use mx_caches::{Lookaside, Sidecars};
 use mx_words::{MOST_KEPT, Perm, Span};
 
 /// The 16 words from a line's first word on.
@@ -35,7 +34,8 @@ pub fn entries_kept<const N: usize>(rounds: u64) -> u64
     kept
 }
 
-/// Keeps so many spans in a vector of `MOST_KEPT`, where the oldest is taken out first, and counts those of the last 100
+/// Keeps so many spans in a vector of `MOST_KEPT`, where the oldest is taken out first, and counts those of the last
+/// 100
 /// that stand in it. A lookaside buffer would be so without its ring.
 pub fn entries_in_vector(rounds: u64) -> u64 {
     let mut entries: ArrayVec<Kept, MOST_KEPT> = ArrayVec::new();
@@ -86,7 +86,8 @@ pub fn sidecar_hits(rounds: u64) -> u64 {
     hits
 }
 
-/// Keeps a span at a place, looks for it at another or the same one, and empties all places, so often. The answer is the
+/// Keeps a span at a place, looks for it at another or the same one, and empties all places, so often. The answer is
+/// the
 /// number of hits: one look in 32 is at the same place.
 pub fn hits_before_clear(rounds: u64) -> u64 {
     let mut places = Sidecars::new();

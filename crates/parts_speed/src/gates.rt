@@ -16,7 +16,8 @@ pub fn elsewhere(count: u32) -> Gates {
     gates
 }
 
-/// The worst layout for look-ups of domain 2: 256 gates of its own in one bucket, and between them as many words of the same
+/// The worst layout for look-ups of domain 2: 256 gates of its own in one bucket, and between them as many words of the
+/// same
 /// bucket without a gate.
 pub fn in_one_bucket(between: &mut [u32; 256]) -> Gates {
     let mut gates = Gates::new();

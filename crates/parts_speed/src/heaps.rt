@@ -3,7 +3,8 @@
 use mx_heap::Heap;
 use std::alloc::Global;
 
-/// A heap of 4096 words with so many live blocks of one word, at the even words. The worst layout for a search of two words: a
+/// A heap of 4096 words with so many live blocks of one word, at the even words. The worst layout for a search of two
+/// words: a
 /// hole of one word stands after each block but the last. `None` where there is no memory.
 pub fn with_holes(alloc: Global, blocks: u32) -> Option<Heap> {
     let mut heap = match Heap::new(alloc, 0, 4096) {

@@ -9,7 +9,8 @@ const HEADERS: u32 = 132;
 /// The size of a symbol.
 const SYMBOL: u32 = 16;
 
-/// The worst layout for a look-up of a name of so many letters: each symbol is defined and has a name that differs from it in
+/// The worst layout for a look-up of a name of so many letters: each symbol is defined and has a name that differs from
+/// it in
 /// the last letter alone. `None` where there is no memory.
 pub fn image(alloc: Global, symbols: u16, letters: u16) -> Option<Vec<u8>> {
     let symbol_bytes = SYMBOL * symbols as u32;

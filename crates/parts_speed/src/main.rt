@@ -41,7 +41,8 @@ fn main(rt: HostRuntime) -> io::Result<()> {
     Ok(())
 }
 
-/// `target` at words without a gate, with no gate, with 256 elsewhere, and with 256 in the bucket of the words that are looked
+/// `target` at words without a gate, with no gate, with 256 elsewhere, and with 256 in the bucket of the words that are
+/// looked
 /// at; at words with a gate; and `add` of the oldest of 256 gates.
 fn time_gates(rt: &(impl Print + Eprint + CpuClock), rounds: u64) -> io::Result<()> {
     for count in [0, 256] {
@@ -109,7 +110,8 @@ fn time_sidecars(rt: &(impl Print + Eprint + CpuClock), rounds: u64) -> io::Resu
     )
 }
 
-/// `owner` and `owns` at words drawn from all of RAM, with 1, 64 and 4096 runs of owners spread over it, and `give` with 4096.
+/// `owner` and `owns` at words drawn from all of RAM, with 1, 64 and 4096 runs of owners spread over it, and `give`
+/// with 4096.
 fn time_owners(
     rt: &(impl Print + Eprint + CpuClock),
     alloc: Global,
@@ -139,7 +141,8 @@ fn time_owners(
     Ok(())
 }
 
-/// `place`, `alloc` and `free`, `block` and `nth` of a heap with no block, and with 1023 and a hole of one word after each.
+/// `place`, `alloc` and `free`, `block` and `nth` of a heap with no block, and with 1023 and a hole of one word after
+/// each.
 fn time_heaps(rt: &(impl Print + Eprint + CpuClock), alloc: Global, rounds: u64) -> io::Result<()> {
     for blocks in [0, 1023] {
         let Some(mut heap) = heaps::with_holes(alloc, blocks) else {
@@ -201,7 +204,8 @@ fn time_calls(
     time_others(rt, &mut machine, rounds)
 }
 
-/// A grant of a word to the last module, and `alloc` with `free` of 16 words and of a page, the latter a sixty-fourth as often.
+/// A grant of a word to the last module, and `alloc` with `free` of 16 words and of a page, the latter a sixty-fourth
+/// as often.
 fn time_rights<T: PermTables, const N: usize>(
     rt: &(impl Print + Eprint + CpuClock),
     machine: &mut Supervisor<T, N>,

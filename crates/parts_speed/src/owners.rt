@@ -5,7 +5,8 @@ ghost use Rattle.std.specs.Prelude.{◌≡◌, ◌<◌, ◌≤◌, length, IfSom
 use mx_owners::Owners;
 use std::alloc::Global;
 
-/// The owners of these words in runs of so many words each, of which domain 1 has the first, the third and so on. `None` where
+/// The owners of these words in runs of so many words each, of which domain 1 has the first, the third and so on.
+/// `None` where
 /// there is no memory.
 pub fn spread(alloc: Global, words: u32, run: u32) -> Option<Owners>
     requires some { 0 < run }

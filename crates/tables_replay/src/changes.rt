@@ -61,7 +61,8 @@ fn count(numbers: &mut Numbers, words: u32) -> u32
     }
 }
 
-/// The first word of a change, which is at most `last`, from where it ends at RAM's end: there or near it, in a crowd, or anywhere,
+/// The first word of a change, which is at most `last`, from where it ends at RAM's end: there or near it, in a crowd,
+/// or anywhere,
 /// also at the edges of lines, of eighths of pages and of pages.
 fn first(numbers: &mut Numbers, last: u32) -> u32
     requires { last ≤ most_words }
@@ -95,7 +96,8 @@ fn long_count(numbers: &mut Numbers, words: u32) -> u32
     }
 }
 
-/// The first word of a change among regions, which is at most `last`: as for the others, but in a crowd at a region's edge and at the
+/// The first word of a change among regions, which is at most `last`: as for the others, but in a crowd at a region's
+/// edge and at the
 /// edges of eighths of regions.
 fn far_first(numbers: &mut Numbers, last: u32) -> u32
     requires { last ≤ most_words }

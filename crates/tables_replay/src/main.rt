@@ -1,5 +1,7 @@
-//! Replays random changes of rights on the tables of each kind and on plain lists, and compares what both answer. It prints a line for
-//! each replay, where the three numbers of a limit and a need are those of upper frames, leaf frames and spill words. It ends with
+//! Replays random changes of rights on the tables of each kind and on plain lists, and compares what both answer. It
+//! prints a line for
+//! each replay, where the three numbers of a limit and a need are those of upper frames, leaf frames and spill words.
+//! It ends with
 //! status 1 where an answer differs.
 #![tactic(auto)]
 

@@ -1,7 +1,8 @@
 //! Numbers without a visible order, the same in each run.
 ghost use Rattle.std.specs.Prelude.{◌<◌};
 
-/// A linear congruential generator: each state is the one before times 6364136223846793005 plus 1442695040888963407, modulo 2^64.
+/// A linear congruential generator: each state is the one before times 6364136223846793005 plus 1442695040888963407,
+/// modulo 2^64.
 #[derive(Drop)]
 pub struct Numbers {
     state: u64,

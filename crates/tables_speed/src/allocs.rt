@@ -1,4 +1,5 @@
-//! Changes as a supervisor makes them for `alloc` and `free`, over tables of one domain or more: domain 1 gets a range or loses it, and
+//! Changes as a supervisor makes them for `alloc` and `free`, over tables of one domain or more: domain 1 gets a range
+//! or loses it, and
 //! all other domains have no permission there before and after.
 ghost use Rattle.std.specs.Prelude.{◌≡◌, ◌+◌, ◌<◌, ◌≤◌, All, length, vec_len, IfOk, IfSome};
 ghost use Rattle.mx_table.specs.Change.{IsLawful};
@@ -79,7 +80,8 @@ fn hand(range: Range, domains: u32, perm: Perm) -> Change
     }
 }
 
-/// How many of so many changes that give domain 1 a permission on a range, and the others none, would fit. None is made.
+/// How many of so many changes that give domain 1 a permission on a range, and the others none, would fit. None is
+/// made.
 pub fn fits<T: PermTables>(tables: &T, range: Range, domains: u32, perm: Perm, rounds: u64) -> u64
     requires some { 1 ≤ domains }
     requires few { domains ≤ most_modules }

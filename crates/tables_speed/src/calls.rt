@@ -16,7 +16,8 @@ pub struct Range {
     pub count: u32,
 }
 
-/// The word that round `i` looks at: each of the first 32 words from the beginning of a span on, one span after another.
+/// The word that round `i` looks at: each of the first 32 words from the beginning of a span on, one span after
+/// another.
 fn word_of_round(words: u32, i: u64) -> u32
     requires few { 16384 ≤ words }
     requires most { words ≤ 2 ^ 24 }

@@ -1,4 +1,5 @@
-//! Times calls of permission tables: `tables_speed KIND ROUNDS`, with KIND segments, multilevel or packed, prints to stdout what the
+//! Times calls of permission tables: `tables_speed KIND ROUNDS`, with KIND segments, multilevel or packed, prints to
+//! stdout what the
 //! calls answered, which is the same for each kind, and to stderr the processor time that so many calls of each took.
 #![tactic(auto)]
 
@@ -60,7 +61,8 @@ fn time_kind<T: PermTables + Drop>(
     time_places::<T>(rt, alloc, 256, 4_096, rounds)
 }
 
-/// Times changes of one word in a region full of so many spans, one in each `step` words: at its start, in its middle and at its end,
+/// Times changes of one word in a region full of so many spans, one in each `step` words: at its start, in its middle
+/// and at its end,
 /// each time in the middle of the words after a span.
 fn time_places<T: PermTables + Drop>(
     rt: &(impl Print + Eprint + CpuClock),
@@ -90,7 +92,8 @@ fn time_places<T: PermTables + Drop>(
     time_place(rt, &mut tables, "end", last + between, step, rounds)
 }
 
-/// Changes of the word `at` of the region: `fits` alone where it gets a right, `fits` with `apply` where it gets it and loses it in turn,
+/// Changes of the word `at` of the region: `fits` alone where it gets a right, `fits` with `apply` where it gets it and
+/// loses it in turn,
 /// and `fits` alone where it loses it.
 fn time_place<T: PermTables>(
     rt: &(impl Print + Eprint + CpuClock),
@@ -148,8 +151,10 @@ fn time_loss<T: PermTables>(
     tell_alloc(rt, "place-loss", place, step, 1, rounds, begun, ended)
 }
 
-/// Times allocs of 16 words, 1 MiB and 64 MiB over tables of so many domains, each at a usual place and at a worst one: for 16 words the
-/// first page of a region and the last page of one of which all other pages are even; for more, whole regions' eighths and whole
+/// Times allocs of 16 words, 1 MiB and 64 MiB over tables of so many domains, each at a usual place and at a worst one:
+/// for 16 words the
+/// first page of a region and the last page of one of which all other pages are even; for more, whole regions' eighths
+/// and whole
 /// regions, and ranges that begin a few words after.
 fn time_domains<T: PermTables + Drop>(
     rt: &(impl Print + Eprint + CpuClock),
@@ -200,7 +205,8 @@ fn time_domains<T: PermTables + Drop>(
     time_allocs(rt, &mut tables, "worst", at(1, 0xFF_FFFE), domains, rounds)
 }
 
-/// `fits` alone, and `fits` with `apply`, of allocs and frees of a range, as often as makes about `rounds` lines of 16 words, and at
+/// `fits` alone, and `fits` with `apply`, of allocs and frees of a range, as often as makes about `rounds` lines of 16
+/// words, and at
 /// least twice.
 fn time_allocs<T: PermTables>(
     rt: &(impl Print + Eprint + CpuClock),
@@ -231,7 +237,8 @@ fn time_allocs<T: PermTables>(
     tell_alloc(rt, "alloc", place, count, domains, rounds, between, ended)
 }
 
-/// Times the calls over tables of a RAM of `words` words: changes are of a word, of a page, and of 4 MiB where RAM is larger.
+/// Times the calls over tables of a RAM of `words` words: changes are of a word, of a page, and of 4 MiB where RAM is
+/// larger.
 fn time_size<T: PermTables + Drop>(
     rt: &(impl Print + Eprint + CpuClock),
     alloc: Global,
@@ -278,7 +285,8 @@ fn time_reads<T: PermTables>(
     tell(rt, "lookup", words, 1, rounds, between, ended)
 }
 
-/// `fits` alone, and `fits` with `apply`, of changes of `count` words from the middle of RAM on, as often as makes about `rounds`
+/// `fits` alone, and `fits` with `apply`, of changes of `count` words from the middle of RAM on, as often as makes
+/// about `rounds`
 /// lines of 16 words, and at least twice.
 fn time_changes<T: PermTables>(
     rt: &(impl Print + Eprint + CpuClock),

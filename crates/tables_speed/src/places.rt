@@ -20,7 +20,8 @@ pub const REGION: u32 = 0x40_0000;
 /// How many words it has.
 pub const REGION_WORDS: u32 = 0x10_0000;
 
-/// A row of so many spans from the region's first word on, one in each `step` words, of which each fills the first half.
+/// A row of so many spans from the region's first word on, one in each `step` words, of which each fills the first
+/// half.
 fn row_of(alloc: Global, words: u32, step: u32, spans: u32) -> Result<Spans, NoMemory>
     requires region { 5242880 ≤ words }
     requires some { 2 ≤ step }

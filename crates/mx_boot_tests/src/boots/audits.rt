@@ -40,7 +40,8 @@ words = [0x00100073]
 gates = [{ entry = 0x80001000, from = [\"a\"] }]
 ";
 
-/// Gates from the last module into the second and from there into the first, which stands first in the list of gates; and gates of
+/// Gates from the last module into the second and from there into the first, which stands first in the list of gates;
+/// and gates of
 /// two modules to which none leads.
 const CHAIN: &str = "[[module]]
 name = \"end\"

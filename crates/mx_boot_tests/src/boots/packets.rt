@@ -1,6 +1,7 @@
 //! Three modules on four harts beside their audit: what it finds at boot is so after 100000 turns.
 //!
-//! The images hold what clang and ld.lld 14 make of the sources in examples/packets, each as a file header, two program headers, its
+//! The images hold what clang and ld.lld 14 make of the sources in examples/packets, each as a file header, two program
+//! headers, its
 //! code and its data, without symbols: so the manifest names addresses.
 
 use super::{booted_over, owner, perm, perm_end};

@@ -44,7 +44,8 @@ fn tables_of_one_leaf_frame_too_few_are_full(rt: HostRuntime) -> Result<(), Fail
     Ok(())
 }
 
-/// A file that is none, one with a segment that may be written and executed, and two modules at one address; and full tables with a
+/// A file that is none, one with a segment that may be written and executed, and two modules at one address; and full
+/// tables with a
 /// fault besides, which comes first.
 const REFUSED: [(&str, File, File, u32, u32, Key, u32); 4] = [
     (

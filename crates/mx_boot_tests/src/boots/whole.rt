@@ -1,4 +1,5 @@
-//! One plan with all that a manifest may say, as a machine at boot over each kind of tables with each size of lookaside buffers.
+//! One plan with all that a manifest may say, as a machine at boot over each kind of tables with each size of lookaside
+//! buffers.
 
 use super::{booted, byte, module, owner, perm, perm_end, start};
 use crate::layouts::accepted::{HARTS, MODULES};
@@ -200,11 +201,13 @@ fn variant(machine: &AnyMachine) -> (&'static str, u32) {
     }
 }
 
-/// The kinds of tables, and what the maps of MODULES need of each. Segments: each domain's runs fill one frame. Multilevel: one
+/// The kinds of tables, and what the maps of MODULES need of each. Segments: each domain's runs fill one frame.
+/// Multilevel: one
 /// region is broken in each domain, and pages 1 to 3 and 0 of the first, page 1 of the second.
 const KINDS: [(&str, u32, u32); 3] = [("segments", 0, 2), ("multilevel", 4, 5), ("packed", 4, 5)];
 
-/// What of a machine isn't what MODULES and HARTS say, over tables of this kind, with buffers of this size and this need.
+/// What of a machine isn't what MODULES and HARTS say, over tables of this kind, with buffers of this size and this
+/// need.
 fn wrong_in(machine: &AnyMachine, kind: &str, size: u32, need: Need) -> Option<&'static str> {
     let (its, spans) = variant(machine);
     if its != kind || spans != size {

@@ -8,7 +8,8 @@ use mx_words::Perm;
 use std::alloc::Global;
 use std::test::Fail;
 
-/// What the words' machine shows before and after three turns: the owner of the words with its run, the right to the last word, whether
+/// What the words' machine shows before and after three turns: the owner of the words with its run, the right to the
+/// last word, whether
 /// the module is killing, the turns' kinds, whether all halted, and a0.
 #[derive(Clone, Copy, PartialEq, Eq, Debug)]
 struct Three {
@@ -99,7 +100,8 @@ perm = \"rw\"
 words = [0, 0]
 ";
 
-/// The rights of domain 1 to the words 0 and 1 and of domain 2 to the words 0 to 3, the owners at words 0, 1 and 3, the first turn's kind, and whether
+/// The rights of domain 1 to the words 0 and 1 and of domain 2 to the words 0 to 3, the owners at words 0, 1 and 3, the
+/// first turn's kind, and whether
 /// all halted.
 #[derive(Clone, Copy, PartialEq, Eq, Debug)]
 struct Two {

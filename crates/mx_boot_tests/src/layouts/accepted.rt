@@ -8,7 +8,8 @@ use mx_words::Perm;
 use std::alloc::Global;
 use std::test::Fail;
 
-/// A module with an image, whose .data is writable and executable by one byte of the file, with a heap area, and a stack area of three
+/// A module with an image, whose .data is writable and executable by one byte of the file, with a heap area, and a
+/// stack area of three
 /// words for each hart; and one with inline words right after the last word of .bss.
 pub(crate) const MODULES: &str = "[[module]]
 name = \"a\"

@@ -1,4 +1,5 @@
-//! An image made by GNU as and ld, riscv64-unknown-elf 2.40, from this source, with the sections at 0x80000000, 0x80001000 (with .bss
+//! An image made by GNU as and ld, riscv64-unknown-elf 2.40, from this source, with the sections at 0x80000000,
+//! 0x80001000 (with .bss
 //! after .data and ten bytes more) and 0x80002000:
 //!
 //! ```text

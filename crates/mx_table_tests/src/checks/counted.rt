@@ -92,5 +92,6 @@ impl PermTables for Counted {
         self.inner.shown(domain, word)
     }
 
-    ghost shaped = { λ t. shaped_of t.inner.words t.inner.leaf t.inner.chains.lists t.inner.chains.room t.inner.limit t.inner.kept };
+    ghost shaped = { λ t.
+        shaped_of t.inner.words t.inner.leaf t.inner.chains.lists t.inner.chains.room t.inner.limit t.inner.kept };
 }

@@ -6,4 +6,5 @@ use Rattle.mx_asm.proofs.ProgramLaws.{IsLeft}
 use Rattle.mx_asm.proofs.emission.add_numbers.Given as goal
 
 abbrev pub invariant-pieces : goal.invariant-pieces
-invariant-pieces l = IsLeft l.initial.program (map byte_of_number (pieces_of l.operands)) l.program (map byte_of_number (pieces_left l.piece-iterator))
+invariant-pieces l = IsLeft l.initial.program (map byte_of_number (pieces_of l.operands)) l.program
+    (map byte_of_number (pieces_left l.piece-iterator))

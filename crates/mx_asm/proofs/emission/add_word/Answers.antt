@@ -6,4 +6,5 @@ use Rattle.mx_asm.proofs.emission.add_word.Goals as goal
 pub returns-clause-grown : goal.returns-clause-grown
 returns-clause-grown c =
     let size : length c.to_le_bytes.result ≡ 4 = search rules in
-    on_ok_weaker c.add_bytes.result (λ is. rw is (rw size at (grown c.to_le_bytes.result c.args.program.now c.requires.begun))) c.add_bytes.ensures.ok
+    on_ok_weaker c.add_bytes.result (λ is. rw is (rw size at (grown c.to_le_bytes.result c.args.program.now c.requires.begun)))
+    c.add_bytes.ensures.ok

@@ -24,9 +24,11 @@ add_label-requires c =
     let source = c.args.source.now in
     let labels = labels_view c.args.labels.now in
     let n = length c.lines.yielded in
-    let t = line_at source n c.in-Some.text.now (YieldsList-turn (YieldsList-from_lines source cc) c.lines.yielded _ c.lines.yielded_by _ _ c.in-Some.text c.in-Some.is c.next.ensures.steps) in
+    let t = line_at source n c.in-Some.text.now (YieldsList-turn (YieldsList-from_lines source cc) c.lines.yielded _ c.lines.yielded_by _ _
+    c.in-Some.text c.in-Some.is c.next.ensures.steps) in
     let is = c.read_line-line.ensures.line ∙ ap line_of c.as_bytes.ensures.value in
-    let next = next_at source labels c.lines.place n c.in-Some.text.now (line_view c.read_line-line.result) c.lines.program t is c.lines.invariant.faults c.lines.invariant.offsets c.lines.invariant.placed in
+    let next = next_at source labels c.lines.place n c.in-Some.text.now (line_view c.read_line-line.result) c.lines.program t is
+    c.lines.invariant.faults c.lines.invariant.offsets c.lines.invariant.placed in
     λ some. next.below (is_some-map (λ name. name.now) c.read_line-line.result.label ∙ some)
 
 pub add_statement-requires-clause-ready : goal.add_statement-requires-clause-ready
@@ -34,9 +36,11 @@ add_statement-requires-clause-ready c =
     let source = c.args.source.now in
     let labels = labels_view c.args.labels.now in
     let n = length c.lines.yielded in
-    let t = line_at source n c.in-Some.text.now (YieldsList-turn (YieldsList-from_lines source cc) c.lines.yielded _ c.lines.yielded_by _ _ c.in-Some.text c.in-Some.is c.next.ensures.steps) in
+    let t = line_at source n c.in-Some.text.now (YieldsList-turn (YieldsList-from_lines source cc) c.lines.yielded _ c.lines.yielded_by _ _
+    c.in-Some.text c.in-Some.is c.next.ensures.steps) in
     let is = c.read_line-line.ensures.line ∙ ap line_of c.as_bytes.ensures.value in
-    let next = next_at source labels c.lines.place n c.in-Some.text.now (line_view c.read_line-line.result) c.lines.program t is c.lines.invariant.faults c.lines.invariant.offsets c.lines.invariant.placed in
+    let next = next_at source labels c.lines.place n c.in-Some.text.now (line_view c.read_line-line.result) c.lines.program t is
+    c.lines.invariant.faults c.lines.invariant.offsets c.lines.invariant.placed in
     rw c.in_ok-add_label.ensures next.step.ready
 
 pub lines-preserved : goal.lines-preserved
@@ -44,13 +48,16 @@ lines-preserved c =
     let source = c.args.source.now in
     let labels = labels_view c.args.labels.now in
     let n = length c.lines.yielded in
-    let t = line_at source n c.in-Some.text.now (YieldsList-turn (YieldsList-from_lines source cc) c.lines.yielded _ c.lines.yielded_by _ _ c.in-Some.text c.in-Some.is c.next.ensures.steps) in
+    let t = line_at source n c.in-Some.text.now (YieldsList-turn (YieldsList-from_lines source cc) c.lines.yielded _ c.lines.yielded_by _ _
+    c.in-Some.text c.in-Some.is c.next.ensures.steps) in
     let is = c.read_line-line.ensures.line ∙ ap line_of c.as_bytes.ensures.value in
-    let next = next_at source labels c.lines.place n c.in-Some.text.now (line_view c.read_line-line.result) c.lines.program t is c.lines.invariant.faults c.lines.invariant.offsets c.lines.invariant.placed in
+    let next = next_at source labels c.lines.place n c.in-Some.text.now (line_view c.read_line-line.result) c.lines.program t is
+    c.lines.invariant.faults c.lines.invariant.offsets c.lines.invariant.placed in
     let k : length (c.lines.yielded ++ c.in-Some.text ∷ []) ≡ n + 1 = length_push c.lines.yielded c.in-Some.text in
     rw (k, c.place_after-place.ensures.after, c.in_ok-add_statement.ensures, c.in_ok-add_label.ensures)
     (record {
-      program = sym (program_at source labels c.lines.place n c.in-Some.text.now (line_view c.read_line-line.result) c.lines.program t is) ∙ c.lines.invariant.program;
+      program = sym (program_at source labels c.lines.place n c.in-Some.text.now (line_view c.read_line-line.result) c.lines.program t is)
+          ∙ c.lines.invariant.program;
       faults = next.faults;
       offsets = next.offsets;
       placed = next.step.after;
@@ -58,7 +65,8 @@ lines-preserved c =
 
 pub set_start-requires : goal.set_start-requires
 set_start-requires c =
-    found_place _ c.definition.result _ c.definition.ensures (rw (← c.requires.labels) at (definition_below c.args.source.now (codes "start") c.requires.faultless))
+    found_place _ c.definition.result _ c.definition.ensures (rw (← c.requires.labels) at
+    (definition_below c.args.source.now (codes "start") c.requires.faultless))
 
 pub returns : goal.returns
 unfolding program_from
@@ -66,5 +74,7 @@ returns c =
     let source = c.args.source.now in
     let labels = labels_view c.args.labels.now in
     let e = YieldsList-end (YieldsList-from_lines source cc) c.lines.yielded _ c.lines.yielded_by _ _ c.in-None.is c.next.ensures.steps in
-    let all = at_drop_all (λ rest. program_from labels c.lines.place rest c.lines.program) (lines source) (length c.lines.yielded) (omega (arith, e.1)) in
-    program_done source labels c.lines.program c.set_start.new.program c.definition.result c.requires.labels (sym all ∙ c.lines.invariant.program) c.definition.ensures c.set_start.ensures
+    let all = at_drop_all (λ rest. program_from labels c.lines.place rest c.lines.program) (lines source) (length c.lines.yielded)
+    (omega (arith, e.1)) in
+    program_done source labels c.lines.program c.set_start.new.program c.definition.result c.requires.labels (sym all
+    ∙ c.lines.invariant.program) c.definition.ensures c.set_start.ensures

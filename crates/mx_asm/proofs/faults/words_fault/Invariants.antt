@@ -6,4 +6,5 @@ use Rattle.mx_asm.specs.LabelViews.{labels_view}
 use Rattle.mx_asm.proofs.faults.words_fault.Given as goal
 
 abbrev pub invariant-pieces : goal.invariant-pieces
-invariant-pieces l = lesser_fault l.fault (least_fault (word_fault (labels_view l.labels)) (pieces_left l.piece-iterator)) ≡ least_fault (word_fault (labels_view l.labels)) (pieces_of l.operands)
+invariant-pieces l = lesser_fault l.fault (least_fault (word_fault (labels_view l.labels)) (pieces_left l.piece-iterator))
+    ≡ least_fault (word_fault (labels_view l.labels)) (pieces_of l.operands)

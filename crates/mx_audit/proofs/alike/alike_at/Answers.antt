@@ -17,9 +17,11 @@ loop-i-preserved c =
           let behind = w.rights_at.ensures.behind in
           record {
             known = subst (λ (known : List AlikeWords). AllTell f live word known) (sym w.known-is) w.rights_at.ensures.known;
-            behind = subst (λ (s : AlikeWords). word < s.end) (sym w.all-is) (omega (arith, w.joined-all.ensures.end, behind, c.loop-i.invariant.behind));
+            behind = subst (λ (s : AlikeWords). word < s.end) (sym w.all-is)
+                (omega (arith, w.joined-all.ensures.end, behind, c.loop-i.invariant.behind));
             tells = subst (λ (s : AlikeWords). Tells f (some_exposes f live (i + 1)) word s) (sym w.all-is)
-                (tells-more f live i word c.loop-i.all w.rights_at.result w.joined-all.result w.joined-all.ensures.end w.joined-all.ensures.exposed c.loop-i.invariant.tells w.rights_at.ensures.tells);
+                (tells-more f live i word c.loop-i.all w.rights_at.result w.joined-all.result w.joined-all.ensures.end
+                w.joined-all.ensures.exposed c.loop-i.invariant.tells w.rights_at.ensures.tells);
           }
       | else-is_marked w ↦ record {
         known = subst (λ (known : List AlikeWords). AllTell f live word known) (sym w.known-is) c.loop-i.invariant.known;

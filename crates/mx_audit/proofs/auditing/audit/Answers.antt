@@ -12,8 +12,10 @@ pub returns-clause-inside : goal.returns-clause-inside
 returns-clause-inside c =
     let f = meaning c.args.machine.now in
     let few = c.any_machine_is_valid.ensures.valid.few_words in
-    subst (λ (runs : List Span). AreInRam runs) (sym c.in_ok-sealed.ensures) (in-ram (is_sealed (flat_reads f) f.core) 0 f.core.size (omega arith))
+    subst (λ (runs : List Span). AreInRam runs) (sym c.in_ok-sealed.ensures)
+    (in-ram (is_sealed (flat_reads f) f.core) 0 f.core.size (omega arith))
 
 pub returns-clause-text : goal.returns-clause-text
 returns-clause-text c = λ names.
-    found_is_told (meaning c.args.machine.now) (record { live = c.live_domains-live.result; sealed = c.in_ok-sealed.sealed }) names c.live_domains-live.ensures c.in_ok-sealed.ensures
+    found_is_told (meaning c.args.machine.now) (record { live = c.live_domains-live.result; sealed = c.in_ok-sealed.sealed }) names
+    c.live_domains-live.ensures c.in_ok-sealed.ensures

@@ -10,4 +10,8 @@ returns-clause-sealed c = λ s w.
     (subst (λ (r : Reads). IsSealed r s.core w) (reads-flat s), subst (λ (r : Reads). IsSealed r s.core w) (sym (reads-flat s)))
 
 pub returns-clause-heaps : goal.returns-clause-heaps
-returns-clause-heaps c = λ s. (subst (λ (r : Reads). OwnHeaps r s.core) (reads-flat s), subst (λ (r : Reads). OwnHeaps r s.core) (sym (reads-flat s)))
+returns-clause-heaps c = λ s. (
+  subst (λ (r : Reads). OwnHeaps r s.core) (reads-flat s),
+  subst (λ (r : Reads). OwnHeaps r s.core)
+      (sym (reads-flat s)),
+)

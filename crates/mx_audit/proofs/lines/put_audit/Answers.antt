@@ -18,4 +18,5 @@ returns-in_err-put_sealed g c =
 
 pub returns : goal.returns
 unfolding report
-returns g c = passes_next c.in_ok-put_live.ensures (passes_next c.in_ok-put_sealed.ensures (passes_last (passes_same (ap words_line c.words_of.ensures) c.put_words.ensures)))
+returns g c = passes_next c.in_ok-put_live.ensures (passes_next c.in_ok-put_sealed.ensures
+    (passes_last (passes_same (ap words_line c.words_of.ensures) c.put_words.ensures)))

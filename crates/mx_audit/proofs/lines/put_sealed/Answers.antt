@@ -16,12 +16,14 @@ pub returns-in_err-put_run : goal.returns-in_err-put_run
 returns-in_err-put_run g c =
     let p = err_from_is_err_and c.from_residual.result c.from_residual.ensures.1 in
     rw (p.1, p.2) (coming_item_stop sealed_line c.args.sealed.now c.loop-i.i c.get.result (omega arith) c.loop-i.invariant
-    (passes_same (ap sealed_line (sym (get_or_from_slice_get c.args.sealed.now c.loop-i.i c.get.result c.get.result c.get.ensures))) c.in_err-put_run.ensures))
+    (passes_same (ap sealed_line (sym (get_or_from_slice_get c.args.sealed.now c.loop-i.i c.get.result c.get.result c.get.ensures)))
+    c.in_err-put_run.ensures))
 
 pub loop-i-preserved : goal.loop-i-preserved
 loop-i-preserved g c =
     coming_item sealed_line c.args.sealed.now c.loop-i.i c.get.result (omega arith) c.loop-i.invariant
-    (passes_same (ap sealed_line (sym (get_or_from_slice_get c.args.sealed.now c.loop-i.i c.get.result c.get.result c.get.ensures))) c.in_ok-put_run.ensures)
+    (passes_same (ap sealed_line (sym (get_or_from_slice_get c.args.sealed.now c.loop-i.i c.get.result c.get.result c.get.ensures)))
+    c.in_ok-put_run.ensures)
 
 pub returns : goal.returns
 returns g c = coming_items sealed_line c.args.sealed.now c.loop-i.i (omega arith) c.loop-i.invariant

@@ -19,5 +19,6 @@ passes-preserved c =
     let core = (meaning c.args.machine.now).core in
     record {
       only = c.mark_targets.ensures.only;
-      harts = λ h l. hart-kept c.passes.live c.mark_targets.new.live (hart_at core h) c.mark_targets.ensures.kept (c.passes.invariant.harts h l);
+      harts = λ h l. hart-kept c.passes.live c.mark_targets.new.live (hart_at core h) c.mark_targets.ensures.kept
+          (c.passes.invariant.harts h l);
     }

@@ -21,19 +21,23 @@ frames-init c =
     record {
       long = long;
       within = omega arith;
-      only = subst (λ (ms : List Bool). MarkOnlyLive core ms) (sym set_so) (only-more core marks d c.requires.only (hart-live core c.args.hart c.requires.hart));
+      only = subst (λ (ms : List Bool). MarkOnlyLive core ms) (sym set_so)
+          (only-more core marks d c.requires.only (hart-live core c.args.hart c.requires.hart));
       kept = subst (λ (ms : List Bool). KeepMarks marks ms) (sym set_so) (marked-more marks d);
-      domain = subst (λ (ms : List Bool). IsTrue (is_marked ms d)) (sym set_so) (marked-same marks d (omega (arith, ap length set_so, length-set marks d true)));
+      domain = subst (λ (ms : List Bool). IsTrue (is_marked ms d)) (sym set_so)
+          (marked-same marks d (omega (arith, ap length set_so, length-set marks d true)));
       callers = tt;
     }
 
 pub mark-requires-in-Some : goal.mark-requires-in-Some
 mark-requires-in-Some c =
-    frame-small (meaning c.args.machine.now).core c.args.hart c.frames.i c.in-Some.frame c.any_machine_is_valid.ensures.valid c.requires.hart (sym c.in-Some.ensures)
+    frame-small (meaning c.args.machine.now).core c.args.hart c.frames.i c.in-Some.frame c.any_machine_is_valid.ensures.valid
+    c.requires.hart (sym c.in-Some.ensures)
 
 pub frames-smaller : goal.frames-smaller
 frames-smaller c =
-    let inside = slice_get_within (hart_at (meaning c.args.machine.now).core c.args.hart).frames c.frames.i c.in-Some.frame (sym c.in-Some.ensures) in
+    let inside = slice_get_within (hart_at (meaning c.args.machine.now).core c.args.hart).frames c.frames.i c.in-Some.frame
+    (sym c.in-Some.ensures) in
     omega arith
 
 pub frames-preserved : goal.frames-preserved
@@ -51,12 +55,17 @@ frames-preserved c =
     record {
       long = ap length set_so ∙ length-set marks f.caller true ∙ long;
       within = omega arith;
-      only = subst (λ (ms : List Bool). MarkOnlyLive core ms) (sym set_so) (only-more core marks f.caller inv.only (frame-live core c.args.hart c.frames.i f c.requires.hart at));
+      only = subst (λ (ms : List Bool). MarkOnlyLive core ms) (sym set_so)
+          (only-more core marks f.caller inv.only (frame-live core c.args.hart c.frames.i f c.requires.hart at));
       kept = λ d p. subst (λ (ms : List Bool). IsTrue (is_marked ms d)) (sym set_so) (marked-more marks f.caller d (inv.kept d p));
-      domain = subst (λ (ms : List Bool). IsTrue (is_marked ms hart.domain)) (sym set_so) (marked-more marks f.caller hart.domain inv.domain);
-      callers = subst (λ (ms : List Bool). AllByRecursion (λ (x : Frame). IsTrue (is_marked ms x.caller)) (take (c.frames.i + 1) hart.frames)) (sym set_so)
+      domain = subst (λ (ms : List Bool). IsTrue (is_marked ms hart.domain)) (sym set_so)
+          (marked-more marks f.caller hart.domain inv.domain);
+      callers = subst (λ (ms : List Bool). AllByRecursion (λ (x : Frame). IsTrue (is_marked ms x.caller))
+          (take (c.frames.i + 1) hart.frames)) (sym set_so)
           (all-next (λ (x : Frame). IsTrue (is_marked (set marks f.caller true) x.caller)) hart.frames c.frames.i f at
-          (all-weaker (λ (x : Frame). IsTrue (is_marked marks x.caller)) (λ (x : Frame). IsTrue (is_marked (set marks f.caller true) x.caller)) (take c.frames.i hart.frames) (λ x p. marked-more marks f.caller x.caller p) inv.callers)
+          (all-weaker (λ (x : Frame). IsTrue (is_marked marks x.caller)) (λ (x : Frame).
+          IsTrue (is_marked (set marks f.caller true) x.caller)) (take c.frames.i hart.frames) (λ x p.
+          marked-more marks f.caller x.caller p) inv.callers)
           (marked-same marks f.caller (omega arith)));
     }
 
@@ -65,5 +74,6 @@ returns-clause-home c =
     let hart = hart_at (meaning c.args.machine.now).core c.args.hart in
     record {
       domain = c.frames.invariant.domain;
-      frames = all-end (λ (x : Frame). IsTrue (is_marked c.frames.live x.caller)) hart.frames c.frames.i (sym c.in_default.ensures) c.frames.invariant.callers;
+      frames = all-end (λ (x : Frame). IsTrue (is_marked c.frames.live x.caller)) hart.frames c.frames.i (sym c.in_default.ensures)
+          c.frames.invariant.callers;
     }

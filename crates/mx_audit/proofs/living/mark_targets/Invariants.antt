@@ -15,7 +15,8 @@ invariant-gates l =
       kept : KeepMarks l.fn.live l.live;
       fewer : unmarked l.live ≤ unmarked l.fn.live;
       more : l.more ≡ true → unmarked l.live < unmarked l.fn.live;
-      all : l.more ≡ false → AllByRecursion (λ (g : Gate). IsTrue (is_marked l.live g.domain) → IsTrue (is_marked l.live g.target)) (take l.i gates);
+      all : l.more ≡ false → AllByRecursion (λ (g : Gate). IsTrue (is_marked l.live g.domain)
+          → IsTrue (is_marked l.live g.target)) (take l.i gates);
     }
 
 abbrev pub decreases-gates : goal.decreases-gates

@@ -31,15 +31,24 @@ words-preserved-in_ok-push_run c =
     let behind = c.alike_at-alike.ensures.behind in
     let order = inv.order in
     let few = inv.few in
-    let added : length c.push_run.new.runs ≡ length (c.words.runs ++ run_between c.words.first c.words.word) = ap length c.in_ok-push_run.ensures in
+    let added : length c.push_run.new.runs ≡ length (c.words.runs ++ run_between c.words.first c.words.word) =
+    ap length c.in_ok-push_run.ensures in
     record {
       order = omega arith;
       within = c.alike_at-alike.ensures.tells.within;
-      few = omega (arith, added, length-append c.words.runs (run_between c.words.first c.words.word), length-run_between c.words.first c.words.word);
+      few = omega (
+        arith,
+        added,
+        length-append c.words.runs (run_between c.words.first c.words.word),
+        length-run_between c.words.first
+            c.words.word,
+      );
       known = all-later f c.args.live.now c.words.word s.end c.alike_at-alike.new.known (omega arith) c.alike_at-alike.ensures.known;
       closed = λ w l u. absurd (omega arith);
-      runs = ap (λ (runs : List Span). runs ++ runs_where (is_sealed (flat_reads f) f.core) s.end (f.core.size - s.end)) c.in_ok-push_run.ensures
-          ∙ runs_exposed f c.args.live.now c.any_machine_is_valid.ensures.valid c.requires c.words.runs c.words.first c.words.word s order behind inv.closed c.alike_at-alike.ensures.tells c.if-alike.true inv.runs;
+      runs = ap (λ (runs : List Span). runs ++ runs_where (is_sealed (flat_reads f) f.core) s.end (f.core.size - s.end))
+          c.in_ok-push_run.ensures
+          ∙ runs_exposed f c.args.live.now c.any_machine_is_valid.ensures.valid c.requires c.words.runs c.words.first c.words.word s order
+          behind inv.closed c.alike_at-alike.ensures.tells c.if-alike.true inv.runs;
     }
 
 pub returns : goal.returns
@@ -50,4 +59,5 @@ returns c =
     let order = inv.order in
     let all : c.words.word ≡ f.core.size = omega (arith, c.words-test.false, c.words-in-words.ensures) in
     c.in_ok-push_run-2.ensures ∙ ap (λ w. c.words.runs ++ run_between c.words.first w) all
-    ∙ runs_end f c.args.live.now c.any_machine_is_valid.ensures.valid c.requires c.words.runs c.words.first (omega arith) (λ v l u. inv.closed v l (omega arith)) inv.runs
+    ∙ runs_end f c.args.live.now c.any_machine_is_valid.ensures.valid c.requires c.words.runs c.words.first (omega arith) (λ v l u.
+    inv.closed v l (omega arith)) inv.runs

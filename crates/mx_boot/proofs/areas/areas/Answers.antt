@@ -10,8 +10,10 @@ use Rattle.mx_boot.proofs.areas.areas.Goals as goal
 pub modules-preserved : goal.modules-preserved
 modules-preserved c =
     let h = seen c.home_at.result in
-    grown_by_some (areas_of (length c.args.plan.now.harts)) (homes c.args.plan.now c.args.images.now) c.modules.i h c.modules.all.items c.add_areas.new.areas.items
-    c.home_at.ensures.home c.modules.invariant (c.in_ok-add_areas.ensures ∙ ap (λ n. c.modules.all.items ++ areas_of n h) c.harts.ensures.value)
+    grown_by_some (areas_of (length c.args.plan.now.harts)) (homes c.args.plan.now c.args.images.now) c.modules.i h c.modules.all.items
+    c.add_areas.new.areas.items
+    c.home_at.ensures.home c.modules.invariant (c.in_ok-add_areas.ensures
+    ∙ ap (λ n. c.modules.all.items ++ areas_of n h) c.harts.ensures.value)
 
 pub returns : goal.returns
 returns c =

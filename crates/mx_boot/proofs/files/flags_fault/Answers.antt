@@ -12,15 +12,18 @@ returns-then-is_refused c =
     let at = at_counted c.args.segments.now c.loop-k.k c.get.result c.get.ensures in
     let some = one_applies _ _ (sym c.is_refused.ensures ∙ c.if-is_refused.true) in
     let told = c.fault.ensures ∙ ap (λ p. fault 11 p c.loop-k.k) c.at_module.ensures in
-    ap Some told ∙ sym (sym c.loop-k.invariant ∙ first_here (flags_rows h) (enumerate_from 0 c.args.segments.now) c.loop-k.k (c.loop-k.k, c.get.result) _ at some)
+    ap Some told ∙ sym (sym c.loop-k.invariant ∙ first_here (flags_rows h) (enumerate_from 0 c.args.segments.now) c.loop-k.k
+    (c.loop-k.k, c.get.result) _ at some)
 
 pub loop-k-preserved : goal.loop-k-preserved
 loop-k-preserved c =
     let at = at_counted c.args.segments.now c.loop-k.k c.get.result c.get.ensures in
-    first_next (flags_rows (seen c.args.home)) (enumerate_from 0 c.args.segments.now) c.loop-k.k (c.loop-k.k, c.get.result) at (one_fails _ _ (sym c.is_refused.ensures ∙ c.if-is_refused.false))
+    first_next (flags_rows (seen c.args.home)) (enumerate_from 0 c.args.segments.now) c.loop-k.k (c.loop-k.k, c.get.result) at
+    (one_fails _ _ (sym c.is_refused.ensures ∙ c.if-is_refused.false))
     ∙ c.loop-k.invariant
 
 pub returns : goal.returns
 returns c =
-    let past : length (enumerate_from 0 c.args.segments.now) ≤ c.loop-k.k = omega (arith, length-enumerate_from 0 c.args.segments.now, c.len-k-end.ensures.value) in
+    let past : length (enumerate_from 0 c.args.segments.now) ≤ c.loop-k.k =
+    omega (arith, length-enumerate_from 0 c.args.segments.now, c.len-k-end.ensures.value) in
     sym (sym c.loop-k.invariant ∙ first_end (flags_rows (seen c.args.home)) (enumerate_from 0 c.args.segments.now) c.loop-k.k past)

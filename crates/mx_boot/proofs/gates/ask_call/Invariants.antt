@@ -8,4 +8,5 @@ use Rattle.mx_boot.specs.Entries.{request}
 use Rattle.mx_boot.proofs.gates.ask_call.Given as goal
 
 abbrev pub invariant-names : goal.invariant-names
-invariant-names l = AreAsked l.areas l.fn.gates.items (flat_map (λ domain. request (seen l.home) key.Gates l.gate.entry domain ∷ []) (take l.k l.gate.from)) l.gates.items (Ok tt)
+invariant-names l = AreAsked l.areas l.fn.gates.items (flat_map (λ domain. request (seen l.home) key.Gates l.gate.entry domain ∷ [])
+    (take l.k l.gate.from)) l.gates.items (Ok tt)

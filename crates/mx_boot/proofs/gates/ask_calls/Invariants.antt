@@ -6,4 +6,5 @@ use Rattle.mx_boot.specs.Entries.{call_requests}
 use Rattle.mx_boot.proofs.gates.ask_calls.Given as goal
 
 abbrev pub invariant-gates : goal.invariant-gates
-invariant-gates l = AreAsked l.areas l.fn.gates.items (flat_map (call_requests (seen l.home)) (take l.k l.home.plan.now.gates)) l.gates.items (Ok tt)
+invariant-gates l = AreAsked l.areas l.fn.gates.items (flat_map (call_requests (seen l.home)) (take l.k l.home.plan.now.gates))
+    l.gates.items (Ok tt)

@@ -10,4 +10,5 @@ none = record { domain = 0; word = 0; target = 0 }
 
 pub gates-preserved : goal.gates-preserved
 gates-preserved c =
-    c.in-Ok.ensures.ok ∙ ap (with_gate (get_or c.args.all.now c.gates.gate-index none)) c.gates.invariant ∙ gate-next c.args.all.now c.requires.single c.gates.gate-index none c.gates-test.true
+    c.in-Ok.ensures.ok ∙ ap (with_gate (get_or c.args.all.now c.gates.gate-index none)) c.gates.invariant
+    ∙ gate-next c.args.all.now c.requires.single c.gates.gate-index none c.gates-test.true

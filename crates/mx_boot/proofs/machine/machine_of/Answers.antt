@@ -19,11 +19,13 @@ stacks-stacks-requires g c = search
 
 pub new-requires : goal.new-requires
 new-requires g c =
-    let starts = c.starts-starts.ensures (start_of c.args.plan.now c.args.images.now) (c.as_slice.ensures.value ∙ c.requires.layout.starts) in (
+    let starts = c.starts-starts.ensures (start_of c.args.plan.now c.args.images.now) (c.as_slice.ensures.value ∙ c.requires.layout.starts)
+    in (
       search,
       (
         search,
-        ready c.args.plan.now c.args.images.now c.args.inputs.now c.plan_is_in_range.ensures c.requires.layout.faultless _ c.starts-starts.result c.stacks-stacks.result
+        ready c.args.plan.now c.args.images.now c.args.inputs.now c.plan_is_in_range.ensures c.requires.layout.faultless _
+            c.starts-starts.result c.stacks-stacks.result
             c.requires.parts starts c.stacks-stacks.ensures,
       ),
     )
@@ -34,5 +36,7 @@ returns g c =
     let images = c.args.images.now in
     let inputs = c.args.inputs.now in
     let starts = c.starts-starts.ensures (start_of plan images) (c.as_slice.ensures.value ∙ c.requires.layout.starts) in
-    c.new.ensures ∙ ap (λ p. started p c.starts-starts.result c.stacks-stacks.result) c.requires.parts ∙ ap (λ s. started (boot_parts plan images inputs) s c.stacks-stacks.result) starts
-    ∙ ap (started (boot_parts plan images inputs) (hart_starts plan images)) c.stacks-stacks.ensures ∙ boots-as plan images c.plan_is_in_range.ensures c.requires.layout.faultless inputs
+    c.new.ensures ∙ ap (λ p. started p c.starts-starts.result c.stacks-stacks.result) c.requires.parts
+    ∙ ap (λ s. started (boot_parts plan images inputs) s c.stacks-stacks.result) starts
+    ∙ ap (started (boot_parts plan images inputs) (hart_starts plan images)) c.stacks-stacks.ensures
+    ∙ boots-as plan images c.plan_is_in_range.ensures c.requires.layout.faultless inputs

@@ -17,8 +17,10 @@ abbrev none : Area
 none = record { domain = 0; key = key.Version; address = 0; count = 0; perm = P.None }
 
 -- a give with the first word of its area
-same : (first : ℕ) (a : Area) (os now : _) → first ≡ (give a).first → os ≡ now → laid (let g : Give = record { first = first; count = a.count; value = a.domain } in g) os ≡ laid (give a) now
-same first a os now e f = ap (λ n. laid (let g : Give = record { first = n; count = a.count; value = a.domain } in g) os) e ∙ ap (laid (give a)) f
+same : (first : ℕ) (a : Area) (os now : _) → first ≡ (give a).first → os ≡ now
+    → laid (let g : Give = record { first = first; count = a.count; value = a.domain } in g) os ≡ laid (give a) now
+same first a os now e f = ap (λ n. laid (let g : Give = record { first = n; count = a.count; value = a.domain } in g) os) e
+    ∙ ap (laid (give a)) f
 
 pub areas-init : goal.areas-init
 areas-init c = c.in_ok-owners.ensures ∙ sym (none-given c.args.words)
@@ -35,10 +37,13 @@ pub unreachable-requires : goal.unreachable-requires
 unreachable-requires c =
     let a = get_or c.args.areas.now c.areas.area-index none in
     give-fits c.args.words c.areas.area-index c.args.areas.now none c.areas-test.true c.requires.few
-    (subst (λ os. 4096 < owner_runs os) (same c.word_at.result a c.areas.owners (owners (map give (take c.areas.area-index c.args.areas.now)) c.args.words) c.word_at.ensures c.areas.invariant) (c.in-Err.ensures.full.0 refl))
+    (subst (λ os. 4096 < owner_runs os) (same c.word_at.result a c.areas.owners
+    (owners (map give (take c.areas.area-index c.args.areas.now)) c.args.words) c.word_at.ensures c.areas.invariant)
+    (c.in-Err.ensures.full.0 refl))
 
 pub areas-preserved : goal.areas-preserved
 areas-preserved c =
     let a = get_or c.args.areas.now c.areas.area-index none in
-    c.in-Ok.ensures.ok ∙ same c.word_at.result a c.areas.owners (owners (map give (take c.areas.area-index c.args.areas.now)) c.args.words) c.word_at.ensures c.areas.invariant
+    c.in-Ok.ensures.ok ∙ same c.word_at.result a c.areas.owners (owners (map give (take c.areas.area-index c.args.areas.now)) c.args.words)
+    c.word_at.ensures c.areas.invariant
     ∙ give-next c.args.words c.areas.area-index c.args.areas.now none c.areas-test.true

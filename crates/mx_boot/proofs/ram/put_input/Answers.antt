@@ -20,9 +20,14 @@ overflow_add-input c =
 pub put_bytes-requires-clause-room : goal.put_bytes-requires-clause-room
 put_bytes-requires-clause-room c =
     let long = sized-long c.args.bytes.now in
-    record { from = omega (arith, c.requires.room.from); to = omega (arith, c.requires.room.from, c.requires.room.to, long, c.store.ensures.size) }
+    record {
+      from = omega (arith, c.requires.room.from);
+      to =
+          omega (arith, c.requires.room.from, c.requires.room.to, long, c.store.ensures.size);
+    }
 
 pub returns-clause-bytes : goal.returns-clause-bytes
 returns-clause-bytes c =
     let k : c.args.input.now.address + 4 - 2147483648 ≡ c.args.input.now.address - 2147483648 + 4 = omega (arith, c.requires.room.from) in
-    sized-put c.args.ram.now c.store.new.self c.put_bytes.new.ram (c.args.input.now.address - 2147483648) (c.args.input.now.address + 4 - 2147483648) c.args.bytes.now k c.store.ensures.bytes c.put_bytes.ensures.bytes
+    sized-put c.args.ram.now c.store.new.self c.put_bytes.new.ram (c.args.input.now.address - 2147483648)
+    (c.args.input.now.address + 4 - 2147483648) c.args.bytes.now k c.store.ensures.bytes c.put_bytes.ensures.bytes

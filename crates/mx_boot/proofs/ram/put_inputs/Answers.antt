@@ -23,7 +23,8 @@ put_input_of-requires-clause-aligned c = aligned_input c.module.result.now.input
 pub modules-preserved : goal.modules-preserved
 modules-preserved c =
     let m = c.module.result.now in (
-      next-contents (placed_input c.args.inputs.now) (enumerate_from 0 c.args.plan.now.modules) c.modules.i (c.modules.i, m) c.args.ram.now c.modules.ram c.put_input_of.new.ram
+      next-contents (placed_input c.args.inputs.now) (enumerate_from 0 c.args.plan.now.modules) c.modules.i (c.modules.i, m) c.args.ram.now
+          c.modules.ram c.put_input_of.new.ram
           (at_counted c.args.plan.now.modules c.modules.i m c.module.ensures.value) c.modules.invariant.0
           (c.put_input_of.ensures.bytes ∙ ap (λ bytes. fold with_content c.modules.ram (input_contents bytes m)) c.input_at.ensures),
       c.put_input_of.ensures.size ∙ c.modules.invariant.1,
@@ -33,4 +34,5 @@ pub returns-clause-bytes : goal.returns-clause-bytes
 returns-clause-bytes c =
     let all = enumerate_from 0 c.args.plan.now.modules in
     let past : length all ≤ c.modules.i = omega (arith, length-enumerate_from 0 c.args.plan.now.modules, c.modules-i-end.ensures.value) in
-    c.modules.invariant.0 ∙ ap (λ ms. fold with_content c.args.ram.now (flat_map (placed_input c.args.inputs.now) ms)) (take_all c.modules.i all past)
+    c.modules.invariant.0 ∙ ap (λ ms. fold with_content c.args.ram.now (flat_map (placed_input c.args.inputs.now) ms))
+    (take_all c.modules.i all past)

@@ -6,4 +6,5 @@ use Rattle.mx_boot.proofs.ram.put_inputs.Given as goal
 
 abbrev pub invariant-modules : goal.invariant-modules
 invariant-modules l =
-    (l.ram ≡ fold with_content l.fn.ram (flat_map (placed_input l.inputs) (take l.i (enumerate_from 0 l.plan.modules)))) × (length l.ram ≡ length l.fn.ram)
+    (l.ram ≡ fold with_content l.fn.ram (flat_map (placed_input l.inputs) (take l.i (enumerate_from 0 l.plan.modules))))
+    × (length l.ram ≡ length l.fn.ram)

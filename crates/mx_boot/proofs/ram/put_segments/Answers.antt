@@ -11,7 +11,8 @@ pub put_bytes-requires-clause-room : goal.put_bytes-requires-clause-room
 put_bytes-requires-clause-room c =
     let f = segment_content c.args.bytes.now in
     let s = c.get-segment.result in
-    let room = all_at (HasRoom (length c.args.ram.now)) (map f c.args.segments.now) c.segments.k (f s) c.requires.room (at_mapped f c.args.segments.now c.segments.k s c.get-segment.ensures) in
+    let room = all_at (HasRoom (length c.args.ram.now)) (map f c.args.segments.now) c.segments.k (f s) c.requires.room
+    (at_mapped f c.args.segments.now c.segments.k s c.get-segment.ensures) in
     subst (λ n. HasRoom n (record { address = s.address; bytes = c.held.result.now })) (sym c.segments.invariant.1)
     (subst (λ bytes. HasRoom (length c.args.ram.now) (record { address = s.address; bytes = bytes })) (sym c.held.ensures) room)
 
@@ -19,7 +20,9 @@ pub segments-preserved : goal.segments-preserved
 segments-preserved c =
     let f = segment_content c.args.bytes.now in
     let s = c.get-segment.result in (
-      next-content f c.args.segments.now c.segments.k s c.args.ram.now c.segments.ram c.put_bytes.new.ram c.get-segment.ensures c.segments.invariant.0
-          (c.put_bytes.ensures.bytes ∙ ap (λ bytes. (let content : Content = record { address = s.address; bytes = bytes } in with_content c.segments.ram content)) c.held.ensures),
+      next-content f c.args.segments.now c.segments.k s c.args.ram.now c.segments.ram c.put_bytes.new.ram c.get-segment.ensures
+          c.segments.invariant.0
+          (c.put_bytes.ensures.bytes ∙ ap (λ bytes. (let content : Content = record { address = s.address; bytes = bytes } in
+          with_content c.segments.ram content)) c.held.ensures),
       c.put_bytes.ensures.size ∙ c.segments.invariant.1,
     )

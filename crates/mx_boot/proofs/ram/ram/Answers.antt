@@ -20,17 +20,20 @@ put_home-requires-clause-room c =
     (ready c.args.plan.now c.args.images.now c.plan_is_in_range.ensures c.requires.clear c.modules.i h c.home_at.ensures.home).room
 
 pub put_home-requires-clause-aligned : goal.put_home-requires-clause-aligned
-put_home-requires-clause-aligned c = (ready c.args.plan.now c.args.images.now c.plan_is_in_range.ensures c.requires.clear c.modules.i (seen c.home_at.result) c.home_at.ensures.home).aligned
+put_home-requires-clause-aligned c = (ready c.args.plan.now c.args.images.now c.plan_is_in_range.ensures c.requires.clear c.modules.i
+    (seen c.home_at.result) c.home_at.ensures.home).aligned
 
 pub modules-preserved : goal.modules-preserved
 modules-preserved c = (
-  next-contents contents (homes c.args.plan.now c.args.images.now) c.modules.i (seen c.home_at.result) (replicate (4 * ram_words c.args.plan.now) 0) c.modules.ram c.put_home.new.ram
+  next-contents contents (homes c.args.plan.now c.args.images.now) c.modules.i (seen c.home_at.result)
+      (replicate (4 * ram_words c.args.plan.now) 0) c.modules.ram c.put_home.new.ram
       c.home_at.ensures.home c.modules.invariant.0 c.put_home.ensures.bytes,
   c.put_home.ensures.size ∙ c.modules.invariant.1,
 )
 
 -- the images of all modules, once the loop is over
-put_all : (plan : Said) (images : List (List ℕ)) (i : ℕ) (ram : List ℕ) → length plan.modules ≤ i → ram ≡ fold with_content (replicate (4 * ram_words plan) 0) (flat_map contents (take i (homes plan images)))
+put_all : (plan : Said) (images : List (List ℕ)) (i : ℕ) (ram : List ℕ) → length plan.modules ≤ i
+    → ram ≡ fold with_content (replicate (4 * ram_words plan) 0) (flat_map contents (take i (homes plan images)))
     → ram ≡ fold with_content (replicate (4 * ram_words plan) 0) (flat_map contents (homes plan images))
 put_all plan images i ram past is =
     let all : length (homes plan images) ≤ i = omega (arith, length-homes plan images, past) in
@@ -47,5 +50,6 @@ returns c =
     let images = c.args.images.now in
     let past : length plan.modules ≤ c.modules.i = omega (arith, c.modules-i-end.ensures.value) in
     let zeros = replicate (4 * ram_words plan) 0 in
-    c.put_inputs.ensures.bytes ∙ ap (λ ram. fold with_content ram (all_inputs plan c.args.inputs.now)) (put_all plan images c.modules.i c.modules.ram past c.modules.invariant.0)
+    c.put_inputs.ensures.bytes ∙ ap (λ ram. fold with_content ram (all_inputs plan c.args.inputs.now))
+    (put_all plan images c.modules.i c.modules.ram past c.modules.invariant.0)
     ∙ sym (fold-append with_content zeros (flat_map contents (homes plan images)) (all_inputs plan c.args.inputs.now))

@@ -7,4 +7,5 @@ use Rattle.mx_boot.proofs.ram.ram.Given as goal
 
 abbrev pub invariant-modules : goal.invariant-modules
 invariant-modules l =
-    (l.ram ≡ fold with_content (replicate (4 * ram_words l.plan) 0) (flat_map contents (take l.i (homes l.plan l.images)))) × (length l.ram ≡ 4 * ram_words l.plan)
+    (l.ram ≡ fold with_content (replicate (4 * ram_words l.plan) 0) (flat_map contents (take l.i (homes l.plan l.images))))
+    × (length l.ram ≡ 4 * ram_words l.plan)

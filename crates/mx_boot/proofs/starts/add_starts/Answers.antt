@@ -8,15 +8,19 @@ pub harts-preserved : goal.harts-preserved
 harts-preserved c =
     let p = c.args.plan.now in
     let at = c.home_at-home.ensures.home in
-    let none = sym (hart_rows_are p c.args.images.now c.hart-hart.result.now (seen c.home_at-home.result) at c.args.all.now (c.harts.h + 1) c.requires) ∙ c.in-Ok.ensures.0 in
-    harts_next p c.args.images.now c.harts.h c.hart-hart.result.now c.hart-hart.ensures.value c.args.starts.now.items c.harts.starts.items c.add_start.new.starts.items _
+    let none = sym (hart_rows_are p c.args.images.now c.hart-hart.result.now (seen c.home_at-home.result) at c.args.all.now (c.harts.h + 1)
+    c.requires) ∙ c.in-Ok.ensures.0 in
+    harts_next p c.args.images.now c.harts.h c.hart-hart.result.now c.hart-hart.ensures.value c.args.starts.now.items c.harts.starts.items
+    c.add_start.new.starts.items _
     none (pc_is p c.args.images.now c.hart-hart.result.now (seen c.home_at-home.result) at) c.in-Ok.ensures.1 c.harts.invariant
 
 pub returns-in-Err : goal.returns-in-Err
 returns-in-Err c =
     let p = c.args.plan.now in
-    let rows = hart_rows_are p c.args.images.now c.hart-hart.result.now (seen c.home_at-home.result) c.home_at-home.ensures.home c.args.all.now (c.harts.h + 1) c.requires in
-    harts_stop p c.args.images.now c.harts.h c.hart-hart.result.now c.hart-hart.ensures.value c.args.starts.now.items c.harts.starts.items c.in-Err.refused
+    let rows = hart_rows_are p c.args.images.now c.hart-hart.result.now (seen c.home_at-home.result) c.home_at-home.ensures.home
+    c.args.all.now (c.harts.h + 1) c.requires in
+    harts_stop p c.args.images.now c.harts.h c.hart-hart.result.now c.hart-hart.ensures.value c.args.starts.now.items c.harts.starts.items
+    c.in-Err.refused
     (subst (λ o. Tells o c.in-Err.refused) rows c.in-Err.ensures) c.harts.invariant
 
 pub returns : goal.returns

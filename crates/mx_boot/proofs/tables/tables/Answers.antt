@@ -17,16 +17,21 @@ build-requires-clause-few_rows g c =
 
 pub returns-in-Ok-build-clause-boot : goal.returns-in-Ok-build-clause-boot
 returns-in-Ok-build-clause-boot g c = λ inputs.
-    let same = ap (map (row_map c.ram_words.result)) c.as_slice.ensures.value ∙ ap (λ n. map (row_map n) c.in-Ok.rows.items) c.ram_words.ensures ∙ c.in-Ok.ensures.maps in
+    let same = ap (map (row_map c.ram_words.result)) c.as_slice.ensures.value
+    ∙ ap (λ n. map (row_map n) c.in-Ok.rows.items) c.ram_words.ensures ∙ c.in-Ok.ensures.maps in
     boot-fits c.args.plan.now c.args.images.now inputs c.requires.clear
-    (sym (fits-are c.args.plan.now c.args.images.now g.T.PermTables.kind c.limit-limit.result _ c.requires.kind c.limit-limit.ensures.limit (c.in-Ok-build.ensures.maps ∙ same)) ∙ c.in-Ok-build.ensures.fits)
+    (sym (fits-are c.args.plan.now c.args.images.now g.T.PermTables.kind c.limit-limit.result _ c.requires.kind c.limit-limit.ensures.limit
+    (c.in-Ok-build.ensures.maps ∙ same)) ∙ c.in-Ok-build.ensures.fits)
 
 pub returns-in-Err-TablesFull-clause-refused : goal.returns-in-Err-TablesFull-clause-refused
 returns-in-Err-TablesFull-clause-refused g c = λ inputs.
     let plan = c.args.plan.now in
     let images = c.args.images.now in
-    let same = ap (map (row_map c.ram_words.result)) c.as_slice.ensures.value ∙ ap (λ n. map (row_map n) c.in-Ok.rows.items) c.ram_words.ensures ∙ c.in-Ok.ensures.maps in
+    let same = ap (map (row_map c.ram_words.result)) c.as_slice.ensures.value
+    ∙ ap (λ n. map (row_map n) c.in-Ok.rows.items) c.ram_words.ensures ∙ c.in-Ok.ensures.maps in
     let told = rw c.in-Err-TablesFull.field-0-is at c.in-Err-TablesFull.ensures.refused in
     let need = told.0 ∙ need-is plan images g.T.PermTables.kind _ c.requires.kind same in
-    boot-full plan images inputs c.requires.clear (sym (ap (λ n. within n c.limit-limit.result) need ∙ ap (within _) c.limit-limit.ensures.limit) ∙ told.1)
-    ∙ ap (λ n. Err (TooFull n (limit_of plan))) (sym need) ∙ ap (λ l. Err (TooFull c.in-Err-TablesFull.need l)) (sym c.limit-limit.ensures.limit)
+    boot-full plan images inputs c.requires.clear (sym (ap (λ n. within n c.limit-limit.result) need
+    ∙ ap (within _) c.limit-limit.ensures.limit) ∙ told.1)
+    ∙ ap (λ n. Err (TooFull n (limit_of plan))) (sym need) ∙ ap (λ l. Err (TooFull c.in-Err-TablesFull.need l))
+    (sym c.limit-limit.ensures.limit)

@@ -26,7 +26,10 @@ serve-requires g c =
         joined-sound _ (with-harts p (announces call.hart r p.harts) c.requires.rest.sound),
         (
           c.requires.rest.domain,
-          (may-ready _ call c.requires.announced (has-announced p call r c.requires.rest c.announced-first.ensures.range), c.requires.empty),
+          (
+            may-ready _ call c.requires.announced (has-announced p call r c.requires.rest c.announced-first.ensures.range),
+            c.requires.empty,
+          ),
         ),
       ),
     )
@@ -37,6 +40,7 @@ returns-clause-rest g c =
     let call = c.args.call.now in
     let r = c.announced-first.result in
     let harts : c.announce.new.self.harts ≡ announces call.hart r p.harts = ap (λ (x : Checks _). x.harts) c.announce.ensures in
-    let modules : length (g.T.PermTables.maps c.announce.new.self.tables) ≡ length p.maps = ap (λ (x : Checks _). length (g.T.PermTables.maps x.tables)) c.announce.ensures in
+    let modules : length (g.T.PermTables.maps c.announce.new.self.tables) ≡ length p.maps =
+    ap (λ (x : Checks _). length (g.T.PermTables.maps x.tables)) c.announce.ensures in
     let keeps : KeepsHarts call None _ _ = rw c.requires.announced at c.serve.ensures.harts in
     rest-again call p _ _ r c.requires.rest harts modules keeps c.serve.ensures.sizes c.serve.ensures.sound

@@ -10,7 +10,8 @@ may-requires g c = (omega arith, (c.requires.ready.rest.may, (lit< tt, c.require
 pub returns-then-not-may : goal.returns-then-not-may
 returns-then-not-may g c =
     let p = parts_of g.T.PermTables c.args.machine.now in
-    rw (c.may.ensures.same_maps, c.may.ensures.same_size, c.may.ensures.same_limit) (record {
+    let same = c.may.ensures.same_tables in
+    rw (same.same_maps, same.same_size, same.same_limit) (record {
       rest = rest-accessed 0 1 p c.may.new.self.harts p.ram c.requires.ready.rest
           (ap length c.may.ensures.harts ∙ length-looked g.row.N p.kind (map_of p.maps 1) 0 5 1 _ p.harts) c.may.ensures.again refl;
       modules = c.requires.ready.modules;
@@ -20,9 +21,11 @@ returns-then-not-may g c =
 pub returns : goal.returns
 returns g c =
     let p = parts_of g.T.PermTables c.args.machine.now in
-    rw (c.may.ensures.same_maps, c.may.ensures.same_size, c.may.ensures.same_limit) (record {
+    let same = c.may.ensures.same_tables in
+    rw (same.same_maps, same.same_size, same.same_limit) (record {
       rest = rest-accessed 0 1 p c.may.new.self.harts c.store.new.self c.requires.ready.rest
-          (ap length c.may.ensures.harts ∙ length-looked g.row.N p.kind (map_of p.maps 1) 0 5 1 _ p.harts) c.may.ensures.again c.store.ensures.size;
+          (ap length c.may.ensures.harts ∙ length-looked g.row.N p.kind (map_of p.maps 1) 0 5 1 _ p.harts) c.may.ensures.again
+          c.store.ensures.size;
       modules = c.requires.ready.modules;
       words = c.requires.ready.words;
     })

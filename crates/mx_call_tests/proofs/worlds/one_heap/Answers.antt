@@ -7,5 +7,6 @@ loop-module-preserved c =
     let pushed = simp length-append at (ap length c.push-in-loop-module.ensures) in
     record {
       count = omega (arith, pushed);
-      areas = λ n within. rw c.push-in-loop-module.ensures (pushed_ends n c.loop-module.heaps c.in-Ok.none (c.loop-module.invariant.areas n within) (rw c.in-Ok.ensures (omega arith)));
+      areas = λ n within. rw c.push-in-loop-module.ensures (pushed_ends n c.loop-module.heaps c.in-Ok.none
+          (c.loop-module.invariant.areas n within) (rw c.in-Ok.ensures (omega arith)));
     }

@@ -9,7 +9,8 @@ returns-in-Ok g c =
     let source = c.args.source.now in
     let takes = rw c.source_file.ensures at c.in-Ok.ensures.takes in
     λ dump. takes.1 (λ bytes more. End (assembled source bytes)) _ _ _ _
-    (continues_end g.S.Store.gives (λ more. End (assembled source c.in-Ok.bytes.items)) (assembled source c.in-Ok.bytes.items) refl c.take_file.new.store
+    (continues_end g.S.Store.gives (λ more. End (assembled source c.in-Ok.bytes.items)) (assembled source c.in-Ok.bytes.items) refl
+    c.take_file.new.store
     (rw (c.as_slice.ensures.value, takes.0) at (c.assemble_bytes.ensures dump)))
 
 pub returns-in-Err : goal.returns-in-Err

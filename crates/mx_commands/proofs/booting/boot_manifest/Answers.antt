@@ -15,7 +15,8 @@ returns-in-Err-Fault g c =
     let name = c.args.name.now in
     let fault = c.in-Err-Fault.fault in
     rw judged
-    (boots_refused g.S.Store.gives (λ (rest : Load). loaded side name rest (Err fault)) (refusal name (refused_by side (Faulty fault))) c.args.store.now _ _ _ (λ rest. refl)
+    (boots_refused g.S.Store.gives (λ (rest : Load). loaded side name rest (Err fault)) (refusal name (refused_by side (Faulty fault)))
+    c.args.store.now _ _ _ (λ rest. refl)
     (rw (c.refused.ensures, c.in-Err-Fault.field-0-is) at c.refuse.ensures))
 
 pub returns-in-Err-NoMemory : goal.returns-in-Err-NoMemory

@@ -30,21 +30,25 @@ returns-in-Ok g c =
       },
     )
 
-refused_as : (plan : Said) (images inputs : List (List ℕ)) (boot : Result AnyMachine BootRefused) (field why : BootRefused) → IsBooted plan images inputs boot
+refused_as : (plan : Said) (images inputs : List (List ℕ)) (boot : Result AnyMachine BootRefused) (field why : BootRefused)
+    → IsBooted plan images inputs boot
     → boot ≡ Err field → field ≡ why → IsRefusedBy (boot_of plan images inputs) why
-refused_as plan images inputs boot field why is refused named = subst (λ r. IsRefusedBy (boot_of plan images inputs) r) named (subst (λ r. IsBooted plan images inputs r) refused is)
+refused_as plan images inputs boot field why is refused named =
+    subst (λ r. IsRefusedBy (boot_of plan images inputs) r) named (subst (λ r. IsBooted plan images inputs r) refused is)
 
 pub returns-in-Err-Fault : goal.returns-in-Err-Fault
 returns-in-Err-Fault g c =
     let images = c.args.images.items in
     let inputs = c.args.inputs.items in
     let is = c.requires.boots in
-    let boot = refused_as c.args.plan images inputs c.args.boot c.in-Err-Fault.field-0 (Fault c.in-Err-Fault.fault) is c.in-Err-Fault.is (rw c.in-Err-Fault.is at c.in-Err-Fault.field-0-is) in
+    let boot = refused_as c.args.plan images inputs c.args.boot c.in-Err-Fault.field-0 (Fault c.in-Err-Fault.fault) is c.in-Err-Fault.is
+    (rw c.in-Err-Fault.is at c.in-Err-Fault.field-0-is) in
     let side = c.args.side in
     let name = c.args.name.now in
     let why = Faulty c.in-Err-Fault.fault in
     rw boot
-    (boots_refused g.S.Store.gives (λ (rest : Load). booted side name (rest images inputs) c.args.plan (Err why)) (refusal name (refused_by side why)) c.args.store.now _ _ _ (λ rest. refl)
+    (boots_refused g.S.Store.gives (λ (rest : Load). booted side name (rest images inputs) c.args.plan (Err why))
+    (refusal name (refused_by side why)) c.args.store.now _ _ _ (λ rest. refl)
     (rw c.refused.ensures at c.refuse.ensures))
 
 pub returns-in-Err-TablesFull : goal.returns-in-Err-TablesFull
@@ -52,12 +56,15 @@ returns-in-Err-TablesFull g c =
     let images = c.args.images.items in
     let inputs = c.args.inputs.items in
     let is = c.requires.boots in
-    let boot = refused_as c.args.plan images inputs c.args.boot c.in-Err-TablesFull.field-0 (TablesFull c.in-Err-TablesFull.need c.in-Err-TablesFull.limit) is c.in-Err-TablesFull.is (rw c.in-Err-TablesFull.is at c.in-Err-TablesFull.field-0-is) in
+    let boot = refused_as c.args.plan images inputs c.args.boot c.in-Err-TablesFull.field-0
+    (TablesFull c.in-Err-TablesFull.need c.in-Err-TablesFull.limit) is c.in-Err-TablesFull.is
+    (rw c.in-Err-TablesFull.is at c.in-Err-TablesFull.field-0-is) in
     let side = c.args.side in
     let name = c.args.name.now in
     let why = TooFull c.in-Err-TablesFull.need c.in-Err-TablesFull.limit in
     rw boot
-    (boots_refused g.S.Store.gives (λ (rest : Load). booted side name (rest images inputs) c.args.plan (Err why)) (refusal name (refused_by side why)) c.args.store.now _ _ _ (λ rest. refl)
+    (boots_refused g.S.Store.gives (λ (rest : Load). booted side name (rest images inputs) c.args.plan (Err why))
+    (refusal name (refused_by side why)) c.args.store.now _ _ _ (λ rest. refl)
     (rw c.tables_full.ensures at c.refuse-in-Err-TablesFull.ensures))
 
 pub returns : goal.returns

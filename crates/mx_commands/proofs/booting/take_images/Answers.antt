@@ -13,7 +13,8 @@ returns-in-Err-push g c =
     let comes = rw behind at (c.modules.invariant.comes rest) in
     comes _ _ _ _
     (takes.1 (drop (c.modules.i + 1) modules) rest _ _ _ _
-    (continues_wanting g.S.Store.gives _ c.take_image.new.store refl (record { console = refl; report = takes.0 ∙ c.modules.invariant.report; dump = refl })))
+    (continues_wanting g.S.Store.gives _ c.take_image.new.store refl
+    (record { console = refl; report = takes.0 ∙ c.modules.invariant.report; dump = refl })))
 
 pub returns-in-Err : goal.returns-in-Err
 returns-in-Err g c =

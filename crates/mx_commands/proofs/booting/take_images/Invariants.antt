@@ -7,5 +7,6 @@ use Rattle.mx_commands.proofs.booting.take_images.Given as goal
 abbrev pub invariant-modules : goal.invariant-modules
 invariant-modules g l = record {
   report : g.R.Sink.state l.report ≡ g.R.Sink.state l.initial.report;
-  comes : (rest : AfterFiles) → Comes (after_images l.side 1 l.plan.modules [] rest) g.S.Store.gives l.initial.store l.store (after_images l.side (l.i + 1) (drop l.i l.plan.modules) l.images.items rest);
+  comes : (rest : AfterFiles) → Comes (after_images l.side 1 l.plan.modules [] rest) g.S.Store.gives l.initial.store l.store
+      (after_images l.side (l.i + 1) (drop l.i l.plan.modules) l.images.items rest);
 }

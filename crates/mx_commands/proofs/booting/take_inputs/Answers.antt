@@ -18,13 +18,15 @@ returns-in-Err-push-clause-takes g c =
     let comes = rw behind at (c.modules.invariant.comes rest) in
     comes _ _ _ _
     (takes.1 (drop (c.modules.i + 1) modules) rest _ _ _ _
-    (continues_wanting g.S.Store.gives _ c.take_input.new.store refl (record { console = refl; report = takes.0 ∙ c.modules.invariant.report; dump = refl })))
+    (continues_wanting g.S.Store.gives _ c.take_input.new.store refl
+    (record { console = refl; report = takes.0 ∙ c.modules.invariant.report; dump = refl })))
 
 pub returns-in-Err-clause-takes : goal.returns-in-Err-clause-takes
 returns-in-Err-clause-takes g c =
     let modules = c.args.plan.now.modules in
     let behind = drop_at modules c.modules.i c.module.result.now c.module.ensures.value in
-    let takes = rw c.modules.invariant.report at (c.in-Err.ensures.takes (4 * ram_words c.args.plan.now) c.modules.inputs.items c.modules.invariant.left) in
+    let takes = rw c.modules.invariant.report at (c.in-Err.ensures.takes (4 * ram_words c.args.plan.now) c.modules.inputs.items
+    c.modules.invariant.left) in
     λ rest console dump.
     let comes = rw behind at (c.modules.invariant.comes rest) in
     comes _ _ _ _ (takes (drop (c.modules.i + 1) modules) rest console dump)
@@ -40,7 +42,8 @@ modules-init g c =
       count = ap length none;
       fit = subst (AreFitting plan 0) (sym none) (fit_none plan);
       comes = subst
-          (λ items. (rest : AfterFiles) → Comes (after_inputs c.args.side (4 * ram_words plan) 1 plan.modules [] rest) g.S.Store.gives c.args.store.now c.args.store.now
+          (λ items. (rest : AfterFiles) → Comes (after_inputs c.args.side (4 * ram_words plan) 1 plan.modules [] rest) g.S.Store.gives
+          c.args.store.now c.args.store.now
           (after_inputs c.args.side (4 * ram_words plan) 1 plan.modules items rest))
           (sym none) (λ rest end before now status c. c);
     }
@@ -61,7 +64,8 @@ modules-preserved g c =
       left = rw items (omega (arith, more, c.modules.invariant.left));
       few = omega (arith, c.modules.invariant.few);
       count = rw items (omega (arith, long, c.modules.invariant.count));
-      fit = rw items (fit_next plan c.modules.i before c.module.result.now input c.modules.invariant.count c.module.ensures.value c.in-Ok.ensures.fit.1 c.modules.invariant.fit);
+      fit = rw items (fit_next plan c.modules.i before c.module.result.now input c.modules.invariant.count c.module.ensures.value
+          c.in-Ok.ensures.fit.1 c.modules.invariant.fit);
       comes =
           λ rest end before now result continues.
           let comes = rw behind at (c.modules.invariant.comes rest) in
@@ -76,4 +80,5 @@ returns-clause-takes g c =
     (c.modules.invariant.report, λ rest. rw all at (c.modules.invariant.comes rest))
 
 pub returns-clause-fit : goal.returns-clause-fit
-returns-clause-fit g c = fit_all c.args.plan.now c.modules.i c.modules.inputs.items (omega (arith, c.modules-test.false, c.modules-i-end.ensures.value)) c.modules.invariant.fit
+returns-clause-fit g c = fit_all c.args.plan.now c.modules.i c.modules.inputs.items
+    (omega (arith, c.modules-test.false, c.modules-i-end.ensures.value)) c.modules.invariant.fit

@@ -13,6 +13,7 @@ invariant-modules g l = record {
   few : l.left ≤ 67108864;
   count : length l.inputs.items ≡ l.i;
   fit : AreFitting l.plan l.i l.inputs.items;
-  comes : (rest : AfterFiles) → Comes (after_inputs l.side (4 * ram_words l.plan) 1 l.plan.modules [] rest) g.S.Store.gives l.initial.store l.store
+  comes : (rest : AfterFiles) → Comes (after_inputs l.side (4 * ram_words l.plan) 1 l.plan.modules [] rest) g.S.Store.gives l.initial.store
+      l.store
       (after_inputs l.side (4 * ram_words l.plan) (l.i + 1) (drop l.i l.plan.modules) l.inputs.items rest);
 }

@@ -8,7 +8,8 @@ returns-in-Ok g c =
     let takes = rw c.manifest_file.ensures at c.in-Ok.ensures.takes in
     let side = c.args.side in
     let name = c.args.name.now in
-    boots_on g.S.Store.gives (after_load side name) (λ (rest : Load). loaded side name rest (judged c.in-Ok.bytes.items)) _ _ _ _ _ _ takes.0
+    boots_on g.S.Store.gives (after_load side name) (λ (rest : Load). loaded side name rest (judged c.in-Ok.bytes.items)) _ _ _ _ _ _
+    takes.0
     (λ rest. takes.1 (λ bytes. loaded side name rest (judged bytes))) _ (rw c.as_slice.ensures.value at c.boot_manifest.ensures)
 
 pub returns-in-Err : goal.returns-in-Err

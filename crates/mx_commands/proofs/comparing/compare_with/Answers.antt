@@ -19,7 +19,8 @@ returns-in-Ok g c =
     λ s is console dump.
     let rest : Rest = λ other t more. End (compared pair plan s other t) in
     goes.comes rest _ _ _ _
-    (continues_end g.S.Store.gives (λ more. End (compared pair plan s other goes.state)) (compared pair plan s other goes.state) refl c.take_boot.new.store
+    (continues_end g.S.Store.gives (λ more. End (compared pair plan s other goes.state)) (compared pair plan s other goes.state) refl
+    c.take_boot.new.store
     (inl (rw takes.0 at (c.compare_booted.ensures s goes.state is goes.means console dump))))
 
 pub returns-in-Err : goal.returns-in-Err

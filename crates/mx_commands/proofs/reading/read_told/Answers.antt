@@ -6,13 +6,15 @@ use Rattle.mx_commands.proofs.reading.read_told.Goals as goal
 pub returns-in-Ok-eq0-clause-found : goal.returns-in-Ok-eq0-clause-found
 returns-in-Ok-eq0-clause-found g c =
     let part = rw (c.deref_mut.ensures.value, c.in-Ok-eq0.field-0-test) at c.in-Ok-eq0.ensures in
-    came_end g.S.Store.gives c.args.name.now c.args.told c.args.store.now c.parts.store c.read_part.new.store c.parts.got c.parts.bytes.items c.read_part.new.bytes c.parts.invariant.full c.parts-test.true
+    came_end g.S.Store.gives c.args.name.now c.args.told c.args.store.now c.parts.store c.read_part.new.store c.parts.got
+    c.parts.bytes.items c.read_part.new.bytes c.parts.invariant.full c.parts-test.true
     part c.parts.invariant.came
 
 pub returns-in-Err-clause-found : goal.returns-in-Err-clause-found
 returns-in-Err-clause-found g c =
     let part = rw c.deref_mut.ensures.value at c.in-Err.ensures in
-    came_failed g.S.Store.gives c.args.name.now c.args.told c.args.store.now c.parts.store c.read_part.new.store c.parts.got c.parts.bytes.items c.read_part.new.bytes c.parts.invariant.full
+    came_failed g.S.Store.gives c.args.name.now c.args.told c.args.store.now c.parts.store c.read_part.new.store c.parts.got
+    c.parts.bytes.items c.read_part.new.bytes c.parts.invariant.full
     c.parts-test.true part c.parts.invariant.came
 
 pub parts-preserved : goal.parts-preserved
@@ -27,7 +29,8 @@ parts-preserved g c =
     (record {
       within = omega (arith, bound, full);
       full = same;
-      came = came_part g.S.Store.gives c.args.name.now c.args.told c.args.store.now c.parts.store c.read_part.new.store c.parts.got c.in-Ok-read_part.count c.parts.bytes.items now full same c.parts-test.true more
+      came = came_part g.S.Store.gives c.args.name.now c.args.told c.args.store.now c.parts.store c.read_part.new.store c.parts.got
+          c.in-Ok-read_part.count c.parts.bytes.items now full same c.parts-test.true more
           part c.parts.invariant.came;
     })
 
@@ -35,4 +38,5 @@ pub returns-clause-found : goal.returns-clause-found
 returns-clause-found g c =
     let full = c.parts.invariant.full in
     let all = take_all c.parts.got c.parts.bytes.items (omega (arith, full, c.parts-test.false)) in
-    came_all g.S.Store.gives c.args.name.now c.args.told c.args.store.now c.parts.store c.parts.bytes.items full (rw all at c.parts.invariant.came)
+    came_all g.S.Store.gives c.args.name.now c.args.told c.args.store.now c.parts.store c.parts.bytes.items full
+    (rw all at c.parts.invariant.came)

@@ -9,11 +9,13 @@ put_refused_at-requires g c = rw c.in-Manifest.is refl
 
 pub put_refused_at-requires-in-Module : goal.put_refused_at-requires-in-Module
 unfolding place_text
-put_refused_at-requires-in-Module g c = rw c.in-Module.is (ap (λ t. codes "module." ++ t) (sym (append-nil (decimal c.args.fault.now.place.index))))
+put_refused_at-requires-in-Module g c = rw c.in-Module.is (ap (λ t. codes "module." ++ t)
+    (sym (append-nil (decimal c.args.fault.now.place.index))))
 
 pub put_refused_at-requires-in-Hart : goal.put_refused_at-requires-in-Hart
 unfolding place_text
-put_refused_at-requires-in-Hart g c = rw c.in-Hart.is (ap (λ t. codes "hart." ++ t) (sym (append-nil (decimal c.args.fault.now.place.index))))
+put_refused_at-requires-in-Hart g c = rw c.in-Hart.is (ap (λ t. codes "hart." ++ t)
+    (sym (append-nil (decimal c.args.fault.now.place.index))))
 
 pub put_refused_at-requires-in-Schedule : goal.put_refused_at-requires-in-Schedule
 unfolding place_text

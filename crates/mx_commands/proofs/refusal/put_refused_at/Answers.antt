@@ -13,4 +13,5 @@ returns g c =
     let place = place_text fault.place.part fault.place.index in
     puts_same
     (refused_parts fault.number (piece_text c.args.table) (piece_text c.args.index) place c.name.result.now fault.detail c.requires
-    ∙ ap (λ (name : List ℕ). concat (fault_text fault.number ∷ place ∷ detail_text name fault.detail ∷ [])) c.name.ensures) c.put_line.ensures
+    ∙ ap (λ (name : List ℕ). concat (fault_text fault.number ∷ place ∷ detail_text name fault.detail ∷ [])) c.name.ensures)
+    c.put_line.ensures

@@ -6,4 +6,5 @@ use Rattle.mx_commands.proofs.refusal.put_unlike.Goals as goal
 
 pub returns : goal.returns
 unfolding unlike_line
-returns g c = puts_same (ap (λ (name : List ℕ). concat (codes "twin unlike key=" ∷ name ∷ codes "\n" ∷ [])) c.name.ensures) c.put_line.ensures
+returns g c = puts_same (ap (λ (name : List ℕ). concat (codes "twin unlike key=" ∷ name ∷ codes "\n" ∷ [])) c.name.ensures)
+    c.put_line.ensures

@@ -15,4 +15,5 @@ returns-in-Ok g c =
     goes.comes (run_from (order_of c.args.order.now)) _ _ _ _ (rw takes.0 at (c.run_taken.ensures goes.state goes.new goes.means))
 
 pub returns-in-Err : goal.returns-in-Err
-returns-in-Err g c = c.in-Err.ensures (run_from (order_of c.args.order.now)) (g.C.Sink.state c.args.console.now) (g.D.Sink.state c.args.dump.now)
+returns-in-Err g c = c.in-Err.ensures (run_from (order_of c.args.order.now)) (g.C.Sink.state c.args.console.now)
+    (g.D.Sink.state c.args.dump.now)

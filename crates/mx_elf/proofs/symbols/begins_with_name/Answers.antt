@@ -8,13 +8,15 @@ pub returns-then-name-strings : goal.returns-then-name-strings
 returns-then-name-strings c =
     let strings : List ℕ = c.args.strings.now in
     let name : List ℕ = c.args.name.now in
-    sym (begins_told strings name c.requires ∙ ap (λ t. t && ((get_or strings (length name) 0 == 0) && bytes_eq (take (length name) strings) name)) (le-ltb (length name) (length strings) (omega (arith, c.if-name-strings.true))))
+    sym (begins_told strings name c.requires ∙ ap (λ t. t && ((get_or strings (length name) 0 == 0)
+    && bytes_eq (take (length name) strings) name)) (le-ltb (length name) (length strings) (omega (arith, c.if-name-strings.true))))
 
 pub returns-then-strings-name-ne0 : goal.returns-then-strings-name-ne0
 returns-then-strings-name-ne0 c =
     let strings : List ℕ = c.args.strings.now in
     let name : List ℕ = c.args.name.now in
-    sym (begins_told strings name c.requires ∙ (rw (ne_eqb (get_or strings (length name) 0) 0 c.if-strings-name-ne0.true) (and-false (nat_lt (length name) (length strings)))))
+    sym (begins_told strings name c.requires ∙ (rw (ne_eqb (get_or strings (length name) 0) 0 c.if-strings-name-ne0.true)
+    (and-false (nat_lt (length name) (length strings)))))
   where
     and-false : (t : Bool) → (t && false) ≡ false
     and-false true = refl
@@ -25,4 +27,9 @@ returns c =
     let strings : List ℕ = c.args.strings.now in
     let name : List ℕ = c.args.name.now in
     let told = c.eq.ensures in
-    sym (begins_told strings name c.requires ∙ (rw (lt-ltb (length name) (length strings) (omega (arith, c.if-name-strings.false)), eq-eqb (get_or strings (length name) 0) 0 (let e : get_or strings (length name) 0 ≡ 0 = omega (arith, c.if-strings-name-ne0.false) in e)) (sym told)))
+    sym (begins_told strings name c.requires ∙ (rw (
+      lt-ltb (length name) (length strings) (omega (arith, c.if-name-strings.false)),
+      eq-eqb
+          (get_or strings (length name) 0) 0 (let e : get_or strings (length name) 0 ≡ 0 = omega (arith, c.if-strings-name-ne0.false) in e),
+    )
+    (sym told)))

@@ -14,7 +14,9 @@ returns-then-contains c =
     let name : List ℕ = c.args.name.now in
     let told = c.contains.ensures in
     let zero_in : list_any (λ b. b == 0) name ≡ true = sym told.value ∙ c.if-contains.true in
-    sym (ap (option_map (st_value symbols)) (find-fails (is_defined symbols strings name) _ (λ at. ap (λ t. not (st_shndx symbols at == 0) && t) (never_begins (drop (st_name symbols at) strings) name zero_in) ∙ and-false (not (st_shndx symbols at == 0)))))
+    sym (ap (option_map (st_value symbols)) (find-fails (is_defined symbols strings name) _ (λ at.
+    ap (λ t. not (st_shndx symbols at == 0) && t) (never_begins (drop (st_name symbols at) strings) name zero_in)
+    ∙ and-false (not (st_shndx symbols at == 0)))))
   where
     and-false : (t : Bool) → (t && false) ≡ false
     and-false true = refl

@@ -4,4 +4,5 @@ use Rattle.mx_elf.specs.Known.{known_in}
 use Rattle.mx_elf.proofs.together.unknown.Given as goal
 
 abbrev pub invariant-names : goal.invariant-names
-invariant-names l = (q : List ℕ) → known_in l.values q ≡ (if list_any (λ n. bytes_eq q n.now) (take l.name-index l.names) then Some None else None)
+invariant-names l = (q : List ℕ) → known_in l.values q ≡ (if list_any (λ n. bytes_eq q n.now) (take l.name-index l.names) then Some None
+    else None)

@@ -7,7 +7,8 @@ use Rattle.mx_gates.proofs.index.sorted_place.Goals.{else-i-sorted-via-then-i-so
 pub returns-then-is_at : goal.returns-then-is_at
 returns-then-is_at c =
     let within : c.place-i.result < length c.args.sorted.now = omega (arith, c.if-i-sorted.true) in
-    rw c.place-i.ensures.place (place-there c.args.domain c.args.word c.args.sorted.now c.requires.rising no_gate (rw (sym c.place-i.ensures.place) within) (rw (sym c.place-i.ensures.place) (sym c.is_at.ensures ∙ c.if-is_at.true)))
+    rw c.place-i.ensures.place (place-there c.args.domain c.args.word c.args.sorted.now c.requires.rising no_gate
+    (rw (sym c.place-i.ensures.place) within) (rw (sym c.place-i.ensures.place) (sym c.is_at.ensures ∙ c.if-is_at.true)))
 
 pub returns-else-i-sorted : goal.returns-else-i-sorted
 returns-else-i-sorted c =

@@ -23,16 +23,28 @@ returns c =
     ⊎_elim
     (λ (less : g.word < w).
     ⊎_elim
-    (λ (before : g.domain < d + 1). rw (borrows g.word w gw less (omega arith), high_ones g.domain (d + 1) gd before (omega arith), all) (⊎_elim
+    (λ (before : g.domain < d + 1). rw (borrows g.word w gw less (omega arith), high_ones g.domain (d + 1) gd before (omega arith), all)
+    (⊎_elim
     (λ (lt : g.domain < d). rw (lt-ltb g.domain d lt) refl)
-    (λ (ge : d ≤ g.domain). rw (le-ltb g.domain d ge, eq-eqb g.domain d (let e : g.domain ≡ d = omega arith in e), lt-ltb g.word w less) refl)
+    (λ (ge : d ≤ g.domain). rw (le-ltb g.domain d ge, eq-eqb g.domain d (let e : g.domain ≡ d = omega arith in e), lt-ltb g.word w less)
+    refl)
     (cases_lt g.domain d)))
-    (λ (behind : d + 1 ≤ g.domain). rw (borrows g.word w gw less (omega arith), high_none g.domain (d + 1) gd behind, none, le-ltb g.domain d (omega arith), ne_eqb g.domain d (λ e. omega (arith, e))) refl)
+    (λ (behind : d + 1 ≤ g.domain). rw (
+      borrows g.word w gw less (omega arith),
+      high_none g.domain (d + 1) gd behind,
+      none,
+      le-ltb g.domain
+          d (omega arith),
+      ne_eqb g.domain d (λ e. omega (arith, e)),
+    ) refl)
     (cases_lt g.domain (d + 1)))
     (λ (more : w ≤ g.word).
     ⊎_elim
-    (λ (before : g.domain < d). let e : d + 0 ≡ d = omega arith in rw (borrows_none g.word w gw more, e, high_ones g.domain d gd before (omega arith), all, lt-ltb g.domain d before) refl)
-    (λ (behind : d ≤ g.domain). let e : d + 0 ≡ d = omega arith in rw (borrows_none g.word w gw more, e, high_none g.domain d gd behind, none, le-ltb g.domain d behind, le-ltb g.word w more) (zero_either (g.domain == d)))
+    (λ (before : g.domain < d). let e : d + 0 ≡ d = omega arith in
+    rw (borrows_none g.word w gw more, e, high_ones g.domain d gd before (omega arith), all, lt-ltb g.domain d before) refl)
+    (λ (behind : d ≤ g.domain). let e : d + 0 ≡ d = omega arith in
+    rw (borrows_none g.word w gw more, e, high_none g.domain d gd behind, none, le-ltb g.domain d behind, le-ltb g.word w more)
+    (zero_either (g.domain == d)))
     (cases_lt g.domain d))
     (cases_lt g.word w)
   where

@@ -8,5 +8,6 @@ pub returns-clause-items : goal.returns-clause-items
 returns-clause-items c =
     let bs : List Block = c.args.blocks.now.items in
     let b : Block = c.args.block in
-    let at : c.blocks_to-at.result ≡ position_or_len (λ (x : Block). nat_lt b.first x.first) bs = rw c.deref.ensures.value at c.blocks_to-at.ensures.place in
+    let at : c.blocks_to-at.result ≡ position_or_len (λ (x : Block). nat_lt b.first x.first) bs =
+    rw c.deref.ensures.value at c.blocks_to-at.ensures.place in
     rw (c.in-Ok.ensures.items, at) (put_listed b bs)

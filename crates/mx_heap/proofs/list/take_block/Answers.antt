@@ -23,19 +23,23 @@ returns-else-behind-gt0-clause-items c =
     let n : ℕ = c.blocks_to-behind.result in
     let place : n ≡ blocks_to w bs = rw c.deref.ensures.value at c.blocks_to-behind.ensures.place in
     let most : n ≤ length bs = rw c.deref.ensures.value at c.blocks_to-behind.ensures.within in
-    let behind : (k : ℕ) → n ≤ k → k < length bs → w < (listed_at bs k).first = λ k le lt. listed_behind w bs c.requires.rising k (omega (arith, place, le)) lt in
+    let behind : (k : ℕ) → n ≤ k → k < length bs → w < (listed_at bs k).first = λ k le lt.
+    listed_behind w bs c.requires.rising k (omega (arith, place, le)) lt in
     let other : (k : ℕ) → k < length bs → (listed_at bs k).first ≢ w = elim c.else-behind-gt0.branch [
       | else-behind-gt0-via-then-behind-gt0+else-index-word v ↦
           let within : n - 1 < length bs = omega (arith, v.if-behind-gt0.true, most) in
-          let read : v.index.result.now ≡ listed_at bs (n - 1) = get_or_read bs (n - 1) v.index.result.now within v.index.ensures no_block in
+          let read : v.index.result.now ≡ listed_at bs (n - 1) =
+          get_or_read bs (n - 1) v.index.result.now within v.index.ensures no_block in
           let differs : (listed_at bs (n - 1)).first ≢ w = λ e. v.if-index-word.false (ap (λ (b : Block). b.first) read ∙ e) in
           λ k lt e. ⊎_elim
-          (λ (low : k < n - 1). let less = c.requires.rising k (n - 1) low within in let last = listed_before w bs (n - 1) (omega (arith, place, v.if-behind-gt0.true)) in absurd (omega (arith, less, last, e)))
+          (λ (low : k < n - 1). let less = c.requires.rising k (n - 1) low within in let last =
+          listed_before w bs (n - 1) (omega (arith, place, v.if-behind-gt0.true)) in absurd (omega (arith, less, last, e)))
           (λ (up : n - 1 ≤ k). ⊎_elim
           (λ (here : k < n). let same : k ≡ n - 1 = omega arith in absurd (differs (ap (λ (j : ℕ). (listed_at bs j).first) (sym same) ∙ e)))
           (λ (past : n ≤ k). let more = behind k past lt in absurd (omega (arith, more, e)))
           (cases_lt k n))
           (cases_lt k (n - 1))
-      | else-behind-gt0-via-else-behind-gt0 v ↦ λ k lt e. let more = behind k (omega (arith, v.if-behind-gt0.false)) lt in absurd (omega (arith, more, e))
+      | else-behind-gt0-via-else-behind-gt0 v ↦ λ k lt e. let more = behind k (omega (arith, v.if-behind-gt0.false)) lt in
+          absurd (omega (arith, more, e))
     ] in
     sym (none_listed w bs other)

@@ -4,7 +4,8 @@ use Rattle.mx_heap.specs.declared.parts.Part.{Part}
 use Rattle.mx_heap.specs.Places.{wall, parts_to, is_hole_around}
 use Rattle.mx_heap.proofs.OrderLaws.{firsts, place_only, place_nowhere, hole_before, hole_behind}
 use Rattle.mx_heap.proofs.parts.hole_around.Goals as goal
-use Rattle.mx_heap.proofs.parts.hole_around.Goals.{else-behind-gt0-via-then-behind-gt0+else-is_hole_around, else-behind-gt0-via-else-behind-gt0}
+use Rattle.mx_heap.proofs.parts.hole_around.Goals.{else-behind-gt0-via-then-behind-gt0+else-is_hole_around}
+use Rattle.mx_heap.proofs.parts.hole_around.Goals.{else-behind-gt0-via-else-behind-gt0}
 
 -- what the code reads where there is no part
 abbrev no_part : Part
@@ -22,8 +23,14 @@ returns-then-is_hole_around c =
     let word : ℕ = c.args.first in
     let n : c.parts_to-behind.result ≡ parts_to word ps = c.parts_to-behind.ensures.place in
     let within : parts_to word ps ≤ length ps = omega (arith, n, c.parts_to-behind.ensures.within) in
-    rw n (place_only ps c.requires.order word (is_hole_around c.args.first c.args.count) (λ k lt. hole_before ps c.requires.order word c.args.count c.requires.some k lt within) (hole_behind ps c.requires.order word c.args.count) (omega (arith, n, c.if-behind-gt0.true)) within
-    (rw (sym n, get_or_default ps (c.parts_to-behind.result - 1) wall no_part (omega (arith, c.if-behind-gt0.true, c.parts_to-behind.ensures.within))) (sym c.is_hole_around.ensures ∙ c.if-is_hole_around.true)))
+    rw n (place_only ps c.requires.order word (is_hole_around c.args.first c.args.count) (λ k lt.
+    hole_before ps c.requires.order word c.args.count c.requires.some k lt within) (hole_behind ps c.requires.order word c.args.count)
+    (omega (arith, n, c.if-behind-gt0.true)) within
+    (rw (
+      sym n,
+      get_or_default ps (c.parts_to-behind.result - 1) wall no_part
+          (omega (arith, c.if-behind-gt0.true, c.parts_to-behind.ensures.within)),
+    ) (sym c.is_hole_around.ensures ∙ c.if-is_hole_around.true)))
 
 pub returns-else-behind-gt0 : goal.returns-else-behind-gt0
 returns-else-behind-gt0 c =
@@ -31,7 +38,15 @@ returns-else-behind-gt0 c =
     let word : ℕ = c.args.first in
     let n : c.parts_to-behind.result ≡ parts_to word ps = c.parts_to-behind.ensures.place in
     let within : parts_to word ps ≤ length ps = omega (arith, n, c.parts_to-behind.ensures.within) in
-    place_nowhere ps c.requires.order word (is_hole_around c.args.first c.args.count) (λ k lt. hole_before ps c.requires.order word c.args.count c.requires.some k lt within) (hole_behind ps c.requires.order word c.args.count) within (elim c.else-behind-gt0.branch [
-      | else-behind-gt0-via-then-behind-gt0+else-is_hole_around w ↦ λ _. rw (sym n, get_or_default ps (c.parts_to-behind.result - 1) wall no_part (omega (arith, w.if-behind-gt0.true, c.parts_to-behind.ensures.within))) (sym w.is_hole_around.ensures ∙ w.if-is_hole_around.false)
+    place_nowhere ps c.requires.order word (is_hole_around c.args.first c.args.count) (λ k lt.
+    hole_before ps c.requires.order word c.args.count c.requires.some k lt within) (hole_behind ps c.requires.order word c.args.count)
+    within (elim c.else-behind-gt0.branch [
+      | else-behind-gt0-via-then-behind-gt0+else-is_hole_around w ↦ λ _.
+          rw (
+            sym n,
+            get_or_default ps (c.parts_to-behind.result - 1) wall no_part
+                (omega (arith, w.if-behind-gt0.true, c.parts_to-behind.ensures.within)),
+          ) (sym w.is_hole_around.ensures
+          ∙ w.if-is_hole_around.false)
       | else-behind-gt0-via-else-behind-gt0 w ↦ λ some. absurd (omega (arith, some, n, w.if-behind-gt0.false))
     ])

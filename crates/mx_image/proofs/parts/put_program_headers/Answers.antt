@@ -22,7 +22,8 @@ segments-preserved c =
           let count = ap length here in
           let longer = ap length w.in_ok-put_program_header.ensures ∙ length-append c.segments.out (program_header c.segments.at s) in
           record {
-            out = rw (at, w.out-is) (headers-step c.segments.out w.put_program_header.new.out _ c.segments.at s _ rest here c.segments.invariant.out w.in_ok-put_program_header.ensures);
+            out = rw (at, w.out-is) (headers-step c.segments.out w.put_program_header.new.out _ c.segments.at s _ rest here
+                c.segments.invariant.out w.in_ok-put_program_header.ensures);
             room = rw w.out-is (omega (arith, count, longer, c.segments.invariant.room));
             at = omega (arith, at, size, c.segments.invariant.at);
           }

@@ -5,7 +5,8 @@ use Rattle.mx_image.proofs.parts.put_symbols.Goals as goal
 
 pub labels-preserved : goal.labels-preserved
 labels-preserved c = record {
-  out = symbols-step c.labels.out c.put_symbol.new.out _ c.labels.at c.args.labels.now c.labels.label-index _ c.labels-test.true c.labels.invariant.out c.in_ok-put_symbol.ensures;
+  out = symbols-step c.labels.out c.put_symbol.new.out _ c.labels.at c.args.labels.now c.labels.label-index _ c.labels-test.true
+      c.labels.invariant.out c.in_ok-put_symbol.ensures;
   room = grind (arith, common_steps);
   at = grind (arith, common_steps);
 }

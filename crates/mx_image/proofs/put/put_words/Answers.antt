@@ -7,4 +7,10 @@ use Rattle.mx_image.proofs.put.put_words.Goals as goal
 pub extend_from_slice-requires : goal.extend_from_slice-requires
 extend_from_slice-requires c =
     let taken = take c.numbers.word-index c.args.numbers.now in
-    rw (c.numbers.invariant) (omega (arith, length-append c.args.out.now (words taken), length-words taken, length-take c.numbers.word-index c.args.numbers.now))
+    rw (c.numbers.invariant) (omega (
+      arith,
+      length-append c.args.out.now (words taken),
+      length-words taken,
+      length-take c.numbers.word-index
+          c.args.numbers.now,
+    ))

@@ -7,4 +7,5 @@ use Rattle.mx_io.specs.Named.{named}
 use Rattle.mx_io.proofs.named.find.Given as goal
 
 abbrev pub invariant-loop-entry : goal.invariant-loop-entry
-invariant-loop-entry g l = find (slice_cmp nat_cmp) l.name (named l.entries.items) ≡ find (slice_cmp nat_cmp) l.name (named (deque_iter_rest l.entry-iterator))
+invariant-loop-entry g l = find (slice_cmp nat_cmp) l.name (named l.entries.items)
+    ≡ find (slice_cmp nat_cmp) l.name (named (deque_iter_rest l.entry-iterator))

@@ -13,14 +13,16 @@ use Rattle.mx_machine.proofs.harts.start_of.Goals as goal
 
 pub behind-stack-requires-clause-area : goal.behind-stack-requires-clause-area
 behind-stack-requires-clause-area c =
-    area-fits (area_of c.args.stacks.now c.in-Some.start.domain) most_words (length c.args.starts.now) c.args.hart (c.requires.areas c.in-Some.start.domain)
+    area-fits (area_of c.args.stacks.now c.in-Some.start.domain) most_words (length c.args.starts.now) c.args.hart
+    (c.requires.areas c.in-Some.start.domain)
     (slice_get_within c.args.starts.now c.args.hart c.in-Some.start (sym c.in-Some.ensures))
 
 pub returns-in-Some : goal.returns-in-Some
 returns-in-Some c =
     let s = c.in-Some.start in
     c.start.ensures
-    ∙ ap (λ v. record no_held_hart { regs = slice_set (replicate 32 0) 2 v; pc = s.pc; domain = s.domain; progress = G.Running }) c.behind-stack.ensures
+    ∙ ap (λ v. record no_held_hart { regs = slice_set (replicate 32 0) 2 v; pc = s.pc; domain = s.domain; progress = G.Running })
+    c.behind-stack.ensures
     ∙ sym (started-at c.args.stacks.now c.args.hart c.args.starts.now
     ∙ ap (λ (o : Option HartStart). option_map_or (started_hart c.args.stacks.now c.args.hart) o no_held_hart) (sym c.in-Some.ensures))
 

@@ -10,11 +10,13 @@ returns-clause-valid g c = subst (λ (f : Flat). IsValid f.core) c.machine.view_
 
 pub returns-clause-maps : goal.returns-clause-maps
 returns-clause-maps g c =
-    subst (λ (f : Flat). length f.maps ≡ length f.core.modules) c.machine.view_is (modules-in c.machine.inside.bare c.machine.invariant.fits)
+    subst (λ (f : Flat). length f.maps ≡ length f.core.modules) c.machine.view_is
+    (modules-in c.machine.inside.bare c.machine.invariant.fits)
 
 pub returns-clause-whole : goal.returns-clause-whole
 returns-clause-whole g c =
-    subst (λ (f : Flat). (d : ℕ) → IsModule (length f.core.modules) d → length (map_in f.core.size f.maps d) ≡ f.core.size) c.machine.view_is
+    subst (λ (f : Flat). (d : ℕ) → IsModule (length f.core.modules) d
+    → length (map_in f.core.size f.maps d) ≡ f.core.size) c.machine.view_is
     (λ d i. map-long c.machine.inside.bare c.machine.invariant.fits d i)
 
 pub returns-clause-owners : goal.returns-clause-owners

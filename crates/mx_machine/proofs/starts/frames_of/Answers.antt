@@ -7,7 +7,8 @@ use Rattle.mx_machine.proofs.starts.frames_of.Goals as goal
 pub loop-i-preserved : goal.loop-i-preserved
 loop-i-preserved c =
     elim c.match-frame.branch [
-      | in-Some w ↦ first-more IsSmallFrame c.args.frames.now c.loop-i.i w.in-Some.frame c.loop-i.invariant (sym w.in-Some.ensures) w.frame_of.ensures
+      | in-Some w ↦ first-more IsSmallFrame c.args.frames.now c.loop-i.i w.in-Some.frame c.loop-i.invariant (sym w.in-Some.ensures)
+          w.frame_of.ensures
       | in-None w ↦ first-past IsSmallFrame c.args.frames.now c.loop-i.i c.loop-i.invariant (sym w.in-None.ensures)
     ]
 

@@ -7,7 +7,8 @@ use Rattle.mx_machine.proofs.starts.starts_of.Goals as goal
 pub loop-hart-preserved : goal.loop-hart-preserved
 loop-hart-preserved c =
     elim c.match-get.branch [
-      | in-Some w ↦ first-more IsSmallStart c.args.starts.now c.loop-hart.hart w.in-Some.start c.loop-hart.invariant (sym w.in-Some.ensures) w.start_of.ensures
+      | in-Some w ↦ first-more IsSmallStart c.args.starts.now c.loop-hart.hart w.in-Some.start c.loop-hart.invariant (sym w.in-Some.ensures)
+          w.start_of.ensures
       | in-None w ↦ first-past IsSmallStart c.args.starts.now c.loop-hart.hart c.loop-hart.invariant (sym w.in-None.ensures)
     ]
 

@@ -10,10 +10,12 @@ pub loop-hart-preserved : goal.loop-hart-preserved
 loop-hart-preserved c =
     elim c.match-get.branch [
       | in-Some w ↦ first-more IsSmallState c.args.states.now c.loop-hart.hart w.in-Some.state.now c.loop-hart.invariant
-          (get-there c.args.states.now c.as_slice.result.now c.loop-hart.hart w.in-Some.state.now (c.as_slice.ensures.value ∙ c.states.view_is) w.in-Some.ensures.lookup.3.0
+          (get-there c.args.states.now c.as_slice.result.now c.loop-hart.hart w.in-Some.state.now (c.as_slice.ensures.value
+          ∙ c.states.view_is) w.in-Some.ensures.lookup.3.0
           (w.in-Some.ensures.lookup.3.1 w.in-Some.state.now)) w.state_of.ensures
       | in-None w ↦ first-past IsSmallState c.args.states.now c.loop-hart.hart c.loop-hart.invariant
-          (slice_get_past c.args.states.now c.loop-hart.hart (omega (arith, w.in-None.ensures.lookup.3, ap (λ (xs : List HartState). length xs) (c.as_slice.ensures.value ∙ c.states.view_is))))
+          (slice_get_past c.args.states.now c.loop-hart.hart (omega
+          (arith, w.in-None.ensures.lookup.3, ap (λ (xs : List HartState). length xs) (c.as_slice.ensures.value ∙ c.states.view_is))))
     ]
 
 pub returns-clause-small : goal.returns-clause-small

@@ -5,4 +5,5 @@ use Rattle.mx_machine.proofs.turns.clear.Goals as goal
 
 pub returns-then-is_none : goal.returns-then-is_none
 returns-then-is_none c =
-    none-told c.args.out.now (omega (arith, c.len.ensures.count, c.if-len-eq0.true)) (sym (ap is_some c.note.ensures) ∙ c.is_none.ensures ∙ ap not c.if-is_none.true)
+    none-told c.args.out.now (omega (arith, c.len.ensures.count, c.if-len-eq0.true)) (sym (ap is_some c.note.ensures) ∙ c.is_none.ensures
+    ∙ ap not c.if-is_none.true)

@@ -29,7 +29,8 @@ new-requires-2 c =
           small-joined _ _ _ _ _ laid tables.size maps,
           (
             small-gates _ _ _ c.in_ok-gates.gates maps tables.size c.in_ok-gates.ensures,
-            small-starts _ _ _ _ _ laid tables.size maps c.in_ok-starts.starts (some-there _ c.if-harts-eq0.false) c.in_ok-starts.ensures.count refl c.in_ok-starts.ensures.each,
+            small-starts _ _ _ _ _ laid tables.size maps c.in_ok-starts.starts (some-there _ c.if-harts-eq0.false)
+                c.in_ok-starts.ensures.count refl c.in_ok-starts.ensures.each,
           ),
         ),
       ),

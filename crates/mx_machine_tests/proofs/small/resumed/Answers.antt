@@ -6,8 +6,17 @@ use Rattle.mx_machine_tests.proofs.SmallLaws.{small-joined}
 use Rattle.mx_machine_tests.proofs.small.resumed.Goals as goal
 
 pub resume-requires : goal.resume-requires
-resume-requires c =
-    (search rules, (search rules, (search rules, rw c.flights_of-flights.ensures (may-fly _ _ _ c.in_ok-tables.ensures.size c.in_ok-range.ensures.inside))))
+resume-requires c = (
+  search rules,
+  (
+    search rules,
+    (
+      search rules,
+      rw c.flights_of-flights.ensures
+          (may-fly _ _ _ c.in_ok-tables.ensures.size c.in_ok-range.ensures.inside),
+    ),
+  ),
+)
 
 pub new-supervisor-requires : goal.new-supervisor-requires
 new-supervisor-requires c =
@@ -41,7 +50,8 @@ resume-requires-2 c =
           (
             rw c.new.ensures tt,
             rw c.states_of-states.ensures (small-resumes _ _ _ _ _ _ _ _ _ _ _ _ _ _ _ laid tables.size maps
-                (ap (λ (fs : List Flight). waiting_harts fs 3) c.flights_of-flights.ensures) waiting halted running range.number range.range c.args.steps c.if-steps-gt1000.false),
+                (ap (λ (fs : List Flight). waiting_harts fs 3) c.flights_of-flights.ensures) waiting halted running range.number range.range
+                c.args.steps c.if-steps-gt1000.false),
           ),
         ),
       ),

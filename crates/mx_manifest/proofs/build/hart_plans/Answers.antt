@@ -4,7 +4,8 @@ use Rattle.mx_manifest.proofs.build.hart_plans.Goals as goal
 
 pub loop-hart-preserved : goal.loop-hart-preserved
 loop-hart-preserved c =
-    built_more (hart_plan c.args.names.now) c.args.harts.now c.loop-hart.hart-index c.hart-item.result c.loop-hart.plans.items c.push.new.self.items c.in_ok-plan.plan
+    built_more (hart_plan c.args.names.now) c.args.harts.now c.loop-hart.hart-index c.hart-item.result c.loop-hart.plans.items
+    c.push.new.self.items c.in_ok-plan.plan
     c.loop-hart-test.true c.hart-item.is c.loop-hart.invariant c.in_ok-plan.ensures c.in_ok-push.ensures.items
 
 pub returns : goal.returns

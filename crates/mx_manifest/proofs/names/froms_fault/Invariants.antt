@@ -6,4 +6,5 @@ use Rattle.mx_manifest.proofs.Loops.{each_from}
 use Rattle.mx_manifest.proofs.names.froms_fault.Given as goal
 
 abbrev pub invariant-loop-i : goal.invariant-loop-i
-invariant-loop-i l = each_from part.Module (from_fault l.names) l.i l.modules ≡ each_fault part.Module (from_fault l.names) (map view l.modules)
+invariant-loop-i l = each_from part.Module (from_fault l.names) l.i l.modules
+    ≡ each_fault part.Module (from_fault l.names) (map view l.modules)

@@ -6,4 +6,5 @@ use Rattle.mx_manifest.proofs.Loops.{each_from}
 use Rattle.mx_manifest.proofs.names.homes_fault.Given as goal
 
 abbrev pub invariant-loop-i : goal.invariant-loop-i
-invariant-loop-i l = each_from part.Hart (λ n. hart_fault l.names) l.i l.harts ≡ each_fault part.Hart (λ n. hart_fault l.names) (map view l.harts)
+invariant-loop-i l = each_from part.Hart (λ n. hart_fault l.names) l.i l.harts
+    ≡ each_fault part.Hart (λ n. hart_fault l.names) (map view l.harts)

@@ -7,4 +7,5 @@ use Rattle.mx_manifest.proofs.Loops.{each_from}
 use Rattle.mx_manifest.proofs.tables.harts_fault.Given as goal
 
 abbrev pub invariant-loop-i : goal.invariant-loop-i
-invariant-loop-i l = each_from part.Hart (λ n. table_fault hart_rows) l.i l.harts ≡ each_fault part.Hart (λ n. table_fault hart_rows) (map view l.harts)
+invariant-loop-i l = each_from part.Hart (λ n. table_fault hart_rows) l.i l.harts
+    ≡ each_fault part.Hart (λ n. table_fault hart_rows) (map view l.harts)

@@ -6,8 +6,10 @@ use Rattle.mx_mill.specs.Plan.{mill_plan, no_images}
 use Rattle.mx_mill.proofs.BootLaws.{mill_boots}
 use Rattle.mx_mill.proofs.boots.boot_mill.Goals as goal
 
-boots_as : (k : ℕ) (plan : Said) (images given : List (List ℕ)) → plan ≡ mill_plan k → images ≡ given → given ≡ no_images → boot_of plan images [] ≡ Ok (boot_state (mill_plan k) no_images [])
-boots_as k plan images given p i n = ap (λ (x : Said). boot_of x images []) p ∙ ap (λ is. boot_of (mill_plan k) is []) (i ∙ n) ∙ mill_boots k
+boots_as : (k : ℕ) (plan : Said) (images given : List (List ℕ)) → plan ≡ mill_plan k → images ≡ given → given ≡ no_images
+    → boot_of plan images [] ≡ Ok (boot_state (mill_plan k) no_images [])
+boots_as k plan images given p i n = ap (λ (x : Said). boot_of x images []) p ∙ ap (λ is. boot_of (mill_plan k) is []) (i ∙ n)
+    ∙ mill_boots k
 
 ok_same : (r : Result State Refusal) (s t : State) → r ≡ Ok s → r ≡ Ok t → s ≡ t
 ok_same r s t p q = let e = sym p ∙ q in cc

@@ -9,7 +9,8 @@ use Rattle.mx_mill.proofs.building.numbers.Goals as goal
 
 pub words-preserved : goal.words-preserved
 words-preserved c =
-    c.in_ok-add.ensures ∙ rw (c.number.ensures, c.words.invariant) (items_taken number c.args.words.now c.words.word-index 0 c.words-test.true)
+    c.in_ok-add.ensures ∙ rw (c.number.ensures, c.words.invariant)
+    (items_taken number c.args.words.now c.words.word-index 0 c.words-test.true)
 
 pub returns : goal.returns
 returns c =

@@ -19,8 +19,10 @@ pub returns-in_err-put_count-3 : goal.returns-in_err-put_count-3
 unfolding sums_line
 returns-in_err-put_count-3 g c =
     let p = err_from_is_err_and c.from_residual-in_err-put_count-3.result c.from_residual-in_err-put_count-3.ensures.1 in
-    rw (p.1, p.2) (passes_next c.in_ok-put_count.ensures (passes_next c.in_ok-put_count-2.ensures (passes_stop _ _ c.in_err-put_count-3.ensures)))
+    rw (p.1, p.2) (passes_next c.in_ok-put_count.ensures (passes_next c.in_ok-put_count-2.ensures
+    (passes_stop _ _ c.in_err-put_count-3.ensures)))
 
 pub returns : goal.returns
 unfolding sums_line
-returns g c = passes_next c.in_ok-put_count.ensures (passes_next c.in_ok-put_count-2.ensures (passes_next c.in_ok-put_count-3.ensures (passes_last c.put_bytes.ensures)))
+returns g c = passes_next c.in_ok-put_count.ensures (passes_next c.in_ok-put_count-2.ensures
+    (passes_next c.in_ok-put_count-3.ensures (passes_last c.put_bytes.ensures)))

@@ -7,4 +7,5 @@ sums_same : (a b c x y z : ℕ) → a ≡ x → b ≡ y → c ≡ z → sums_lin
 sums_same a b c x y z p q r = ap (λ n. sums_line n b c) p ∙ ap (λ n. sums_line x n c) q ∙ ap (λ n. sums_line x y n) r
 
 pub returns : goal.returns
-returns g c = passes_same (sums_same _ _ _ _ _ _ c.summed.ensures.sidecar c.summed.ensures.lookaside c.summed.ensures.walks) c.put_sums.ensures
+returns g c = passes_same (sums_same _ _ _ _ _ _ c.summed.ensures.sidecar c.summed.ensures.lookaside c.summed.ensures.walks)
+    c.put_sums.ensures

@@ -8,8 +8,10 @@ use Rattle.mx_mill.proofs.FaultLaws.{mill_judged}
 use Rattle.mx_mill.proofs.plan.plan_of_mill.Goals as goal
 
 -- the bytes of the manifest's text are judged to be the plan
-judged_is : (k : ℕ) (bytes text written : List ℕ) → IsUtf8 text → bytes ≡ text → text ≡ written → parse_document written ≡ Some (mill_table k) → judged bytes ≡ Ok (mill_plan k)
-judged_is k bytes text written utf8 same named parsed = ap judged same ∙ ap judged_document (document_text text utf8 ∙ ap parse_document named ∙ parsed) ∙ mill_judged k
+judged_is : (k : ℕ) (bytes text written : List ℕ) → IsUtf8 text → bytes ≡ text → text ≡ written
+    → parse_document written ≡ Some (mill_table k) → judged bytes ≡ Ok (mill_plan k)
+judged_is k bytes text written utf8 same named parsed = ap judged same
+    ∙ ap judged_document (document_text text utf8 ∙ ap parse_document named ∙ parsed) ∙ mill_judged k
 
 pub returns-in-Ok : goal.returns-in-Ok
 returns-in-Ok c =

@@ -19,5 +19,6 @@ modules-preserved c =
       number = three.number ∙ number_next k i;
       items =
           c.in_ok-add.ensures
-          ∙ rw (c.in_ok-module_of.ensures, drawn, c.modules.invariant.items) (items_counted (λ j. module_table j (words_by (draws k) j)) 1 i (i + 1) (omega arith));
+          ∙ rw (c.in_ok-module_of.ensures, drawn, c.modules.invariant.items)
+          (items_counted (λ j. module_table j (words_by (draws k) j)) 1 i (i + 1) (omega arith));
     }

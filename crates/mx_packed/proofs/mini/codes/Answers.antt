@@ -4,12 +4,17 @@ use Rattle.mx_words.specs.Rights.{number}
 use Rattle.mx_words.specs.contracts.perm.Perm.{the_type}
 use Rattle.mx_words.proofs.NumberLaws.{number-small, number-one_to_one}
 use Rattle.mx_trie.specs.Codes.{value_code, start_code}
-use Rattle.mx_trie.proofs.RunCodes.{value_code-same, value_code-other, value_code-last, value_code-below, start_code-same, start_code-other, start_code-last, start_code-below, runs-drop}
+use Rattle.mx_trie.proofs.RunCodes.{value_code-same, value_code-other, value_code-last, value_code-below, start_code-same, start_code-other}
+use Rattle.mx_trie.proofs.RunCodes.{start_code-last, start_code-below, runs-drop}
 use Rattle.mx_packed.proofs.mini.codes.Goals as goal
 
 pub loop-place-init : goal.loop-place-init
-loop-place-init c =
-    (omega arith, c.number-values.ensures ∙ sym (value_code-last c.args.perms.now 15 (omega arith)), sym (start_code-last c.args.perms.now 15 (omega arith)))
+loop-place-init c = (
+  omega arith,
+  c.number-values.ensures ∙ sym (value_code-last c.args.perms.now 15 (omega arith)),
+  sym
+      (start_code-last c.args.perms.now 15 (omega arith)),
+)
 
 pub overflow_mul-values : goal.overflow_mul-values
 overflow_mul-values c =
@@ -27,13 +32,15 @@ overflow_add-values c =
 pub overflow_mul-starts : goal.overflow_mul-starts
 overflow_mul-starts c =
     let few : start_code c.loop-place.place (drop c.loop-place.place c.args.perms.now) < 16 ^ 3 =
-    start_code-below c.loop-place.place (drop c.loop-place.place c.args.perms.now) 3 (omega (arith, length-drop c.loop-place.place c.args.perms.now)) (omega (arith, runs-drop c.loop-place.place c.args.perms.now)) in
+    start_code-below c.loop-place.place (drop c.loop-place.place c.args.perms.now) 3
+    (omega (arith, length-drop c.loop-place.place c.args.perms.now)) (omega (arith, runs-drop c.loop-place.place c.args.perms.now)) in
     omega arith
 
 pub overflow_add-starts-then-ne : goal.overflow_add-starts-then-ne
 overflow_add-starts-then-ne c =
     let few : start_code c.loop-place.place (drop c.loop-place.place c.args.perms.now) < 16 ^ 3 =
-    start_code-below c.loop-place.place (drop c.loop-place.place c.args.perms.now) 3 (omega (arith, length-drop c.loop-place.place c.args.perms.now)) (omega (arith, runs-drop c.loop-place.place c.args.perms.now)) in
+    start_code-below c.loop-place.place (drop c.loop-place.place c.args.perms.now) 3
+    (omega (arith, length-drop c.loop-place.place c.args.perms.now)) (omega (arith, runs-drop c.loop-place.place c.args.perms.now)) in
     omega arith
 
 pub loop-place-preserved-then-ne : goal.loop-place-preserved-then-ne
@@ -64,5 +71,6 @@ returns-clause-values_below c =
 pub returns-clause-starts_below : goal.returns-clause-starts_below
 returns-clause-starts_below c =
     let few : start_code c.loop-place.place (drop c.loop-place.place c.args.perms.now) < 16 ^ 3 =
-    start_code-below c.loop-place.place (drop c.loop-place.place c.args.perms.now) 3 (omega (arith, length-drop c.loop-place.place c.args.perms.now)) (omega (arith, runs-drop c.loop-place.place c.args.perms.now)) in
+    start_code-below c.loop-place.place (drop c.loop-place.place c.args.perms.now) 3
+    (omega (arith, length-drop c.loop-place.place c.args.perms.now)) (omega (arith, runs-drop c.loop-place.place c.args.perms.now)) in
     omega arith

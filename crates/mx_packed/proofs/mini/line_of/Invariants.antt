@@ -7,4 +7,5 @@ use Rattle.mx_packed.proofs.mini.line_of.Given as goal
 abbrev pub invariant-loop-place : goal.invariant-loop-place
 invariant-loop-place l =
     (length l.line ≡ 16)
-    × ((perms : List Perm) → length perms ≡ 16 → l.values ≡ value_code perms → l.starts ≡ start_code 0 perms → IsDecoded perms l.line l.place l.values_left l.starts_left)
+    × ((perms : List Perm) → length perms ≡ 16 → l.values ≡ value_code perms → l.starts ≡ start_code 0 perms
+    → IsDecoded perms l.line l.place l.values_left l.starts_left)

@@ -12,8 +12,12 @@ loop-place-init c = (omega arith, omega arith, sym (runs-last c.args.perms.now 1
 pub loop-place-preserved-then-ne : goal.loop-place-preserved-then-ne
 loop-place-preserved-then-ne c =
     let back : c.loop-place.place - 1 + 1 ≡ c.loop-place.place = omega arith in
-    let ne = differs_true the_type _ _ (rw back at (sym c.if-ne.ensures)) in
-    (omega arith, omega arith, ap (λ n. n + 1) c.loop-place.invariant.2 ∙ sym (runs-other _ _ _ back (omega arith) (λ e. ne (number-one_to_one _ _ e))))
+    let ne = differs_true the_type _ _ (rw back at (sym c.if-ne.ensures)) in (
+      omega arith,
+      omega arith,
+      ap (λ n. n + 1) c.loop-place.invariant.2
+          ∙ sym (runs-other _ _ _ back (omega arith) (λ e. ne (number-one_to_one _ _ e))),
+    )
 
 pub loop-place-preserved : goal.loop-place-preserved
 loop-place-preserved c =

@@ -1,4 +1,5 @@
-use Rattle.std.proofs.Common.{◌≡◌, ℕ, ◌+◌, ◌*◌, ◌^◌, ◌<◌, true, nat_lt, List, ◌∷◌, Option, Some, None, if◌then◌else◌, ap, sym, subst, ◌∙◌, arith}
+use Rattle.std.proofs.Common.{◌≡◌, ℕ, ◌+◌, ◌*◌, ◌^◌, ◌<◌, true, nat_lt, List, ◌∷◌, Option, Some, None, if◌then◌else◌, ap, sym, subst, ◌∙◌}
+use Rattle.std.proofs.Common.{arith}
 use Rattle.mx_packets.specs.Requests.{decimal_digit, turns_from}
 use Rattle.mx_packets.proofs.request.+turns_from.Goals as goal
 
@@ -9,7 +10,8 @@ abbrev by_digit : ℕ → List ℕ → Option ℕ → Option ℕ
 by_digit n more None = None
 by_digit n more (Some d) = if nat_lt n (10 ^ 18) then turns_from (10 * n + d) more else None
 
-one_digit : (n a b d : ℕ) (more : List ℕ) → decimal_digit a b ≡ Some d → n < 10 ^ 18 → turns_from (10 * n + d) more ≡ turns_from n (a ∷ b ∷ more)
+one_digit : (n a b d : ℕ) (more : List ℕ) → decimal_digit a b ≡ Some d → n < 10 ^ 18
+    → turns_from (10 * n + d) more ≡ turns_from n (a ∷ b ∷ more)
 one_digit n a b d more is few =
     subst (λ (o : Option ℕ). turns_from (10 * n + d) more ≡ by_digit n more o) (sym is)
     (sym (ap (λ t. if t then turns_from (10 * n + d) more else None) (is_below n few)))

@@ -14,10 +14,15 @@ loop-block-preserved g c =
     let m = g.M.WordMap.list c.args.map.now in
     elim c.if-not-is_eighth_uniform.branch [
       | then-not-is_eighth_uniform w ↦
-          (let hit : is_broken c.args.size m c.loop-block.block ≡ true = ap not (sym c.is_eighth_uniform.ensures ∙ w.if-not-is_eighth_uniform.true) in
-          (w.count-is ∙ ap (λ n. n + 1) c.loop-block.invariant.0 ∙ sym (count_below_yes c.loop-block.block (is_broken c.args.size m) hit), omega arith))
+          (let hit : is_broken c.args.size m c.loop-block.block ≡ true =
+          ap not (sym c.is_eighth_uniform.ensures ∙ w.if-not-is_eighth_uniform.true) in (
+            w.count-is ∙ ap (λ n. n + 1) c.loop-block.invariant.0
+                ∙ sym (count_below_yes c.loop-block.block (is_broken c.args.size m) hit),
+            omega arith,
+          ))
       | else-not-is_eighth_uniform w ↦
-          (let miss : is_broken c.args.size m c.loop-block.block ≡ false = ap not (sym c.is_eighth_uniform.ensures ∙ w.if-not-is_eighth_uniform.false) in
+          (let miss : is_broken c.args.size m c.loop-block.block ≡ false =
+          ap not (sym c.is_eighth_uniform.ensures ∙ w.if-not-is_eighth_uniform.false) in
           (w.count-is ∙ c.loop-block.invariant.0 ∙ sym (count_below_no c.loop-block.block (is_broken c.args.size m) miss), omega arith))
     ]
 

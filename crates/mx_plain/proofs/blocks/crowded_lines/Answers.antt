@@ -12,10 +12,16 @@ pub loop-line-preserved : goal.loop-line-preserved
 loop-line-preserved g c =
     let m = g.M.WordMap.list c.args.map.now in
     elim c.if-is_crowded.branch [
-      | then-is_crowded w ↦
-          (w.count-is ∙ ap (λ n. n + 1) c.loop-line.invariant.0 ∙ sym (count_below_yes c.loop-line.line (crowded_at m) (sym c.is_crowded.ensures ∙ w.if-is_crowded.true)), omega arith)
-      | else-is_crowded w ↦
-          (w.count-is ∙ c.loop-line.invariant.0 ∙ sym (count_below_no c.loop-line.line (crowded_at m) (sym c.is_crowded.ensures ∙ w.if-is_crowded.false)), omega arith)
+      | then-is_crowded w ↦ (
+        w.count-is ∙ ap (λ n. n + 1) c.loop-line.invariant.0
+            ∙ sym (count_below_yes c.loop-line.line (crowded_at m) (sym c.is_crowded.ensures ∙ w.if-is_crowded.true)),
+        omega arith,
+      )
+      | else-is_crowded w ↦ (
+        w.count-is ∙ c.loop-line.invariant.0 ∙ sym (count_below_no c.loop-line.line (crowded_at m) (sym c.is_crowded.ensures
+            ∙ w.if-is_crowded.false)),
+        omega arith,
+      )
     ]
 
 pub returns-clause-count : goal.returns-clause-count

@@ -16,6 +16,8 @@ pub returns : goal.returns
 returns g c =
     let m = g.M.WordMap.list c.args.map.now in
     let far : length m < c.args.first + c.args.count = omega arith in
-    let test = uniform_cut m c.args.first c.args.count far (λ k from below. c.loop-word.invariant k from (omega arith) ∙ c.at-perm.ensures) in
-    let is : c.eq.result ≡ same (perm_at m c.args.first) P.None = c.eq.ensures ∙ same_is c.at-perm.result P.None ∙ ap (λ p. same p P.None) c.at-perm.ensures in
+    let test = uniform_cut m c.args.first c.args.count far (λ k from below. c.loop-word.invariant k from (omega arith) ∙ c.at-perm.ensures)
+    in
+    let is : c.eq.result ≡ same (perm_at m c.args.first) P.None = c.eq.ensures ∙ same_is c.at-perm.result P.None
+    ∙ ap (λ p. same p P.None) c.at-perm.ensures in
     rw is test

@@ -13,6 +13,8 @@ loop-spans-preserved c =
     let i = c.loop-spans.spans-index in
     let maps = map (row_map c.args.words) c.args.rows.now in
     let there : i < length maps = omega (arith, length-row_maps c.args.words c.args.rows.now) in
-    let at : get_or maps i [] ≡ row_map c.args.words c.spans-item.result = row_map-at c.args.words c.args.rows.now i (omega arith) ∙ ap (row_map c.args.words) (sym (get_or_read c.args.rows.now i c.spans-item.result (omega arith) c.spans-item.is [])) in
-    need_step c.args.kind maps i (row_map c.args.words c.spans-item.result) c.loop-spans.needed c.need_of.result c.sum-needed.result there at
+    let at : get_or maps i [] ≡ row_map c.args.words c.spans-item.result = row_map-at c.args.words c.args.rows.now i (omega arith)
+    ∙ ap (row_map c.args.words) (sym (get_or_read c.args.rows.now i c.spans-item.result (omega arith) c.spans-item.is [])) in
+    need_step c.args.kind maps i (row_map c.args.words c.spans-item.result) c.loop-spans.needed c.need_of.result c.sum-needed.result there
+    at
     c.loop-spans.invariant.0 c.loop-spans.invariant.1 c.need_of.ensures.need c.need_of.ensures.few c.sum-needed.ensures

@@ -13,10 +13,16 @@ pub loop-word-preserved : goal.loop-word-preserved
 loop-word-preserved g c =
     let m = g.M.WordMap.list c.args.map.now in
     elim c.if-begins.branch [
-      | then-begins w ↦
-          (w.count-is ∙ ap (λ n. n + 1) c.loop-word.invariant.0 ∙ sym (count_below_yes c.loop-word.word (is_start m) (sym c.begins.ensures ∙ w.if-begins.true)), omega arith)
-      | else-begins w ↦
-          (w.count-is ∙ c.loop-word.invariant.0 ∙ sym (count_below_no c.loop-word.word (is_start m) (sym c.begins.ensures ∙ w.if-begins.false)), omega arith)
+      | then-begins w ↦ (
+        w.count-is ∙ ap (λ n. n + 1) c.loop-word.invariant.0
+            ∙ sym (count_below_yes c.loop-word.word (is_start m) (sym c.begins.ensures ∙ w.if-begins.true)),
+        omega arith,
+      )
+      | else-begins w ↦ (
+        w.count-is ∙ c.loop-word.invariant.0 ∙ sym (count_below_no c.loop-word.word (is_start m) (sym c.begins.ensures
+            ∙ w.if-begins.false)),
+        omega arith,
+      )
     ]
 
 pub returns-clause-count : goal.returns-clause-count

@@ -10,4 +10,5 @@ lengthen-requires-clause-line c =
 pub lengthen-requires-clause-inside : goal.lengthen-requires-clause-inside
 lengthen-requires-clause-inside c =
     let line = c.args.word / 16 * 16 in
-    rw c.line_span-span.ensures (within_round c.args.map.now line (line + 16) c.args.word (omega arith) (omega arith) c.requires.word).inside
+    rw c.line_span-span.ensures (within_round c.args.map.now line (line + 16) c.args.word (omega arith) (omega arith)
+    c.requires.word).inside

@@ -19,5 +19,6 @@ with_word-runs-requires-clause-short c =
 pub returns-clause-line : goal.returns-clause-line
 returns-clause-line c =
     let first : c.loop-place.place ≡ 0 = omega arith in
-    let are : runs_in c.loop-place.runs ≡ runs_of same c.args.line.now = c.loop-place.invariant.0 ∙ ap (λ n. runs_of same (drop n c.args.line.now)) first in
+    let are : runs_in c.loop-place.runs ≡ runs_of same c.args.line.now = c.loop-place.invariant.0
+    ∙ ap (λ n. runs_of same (drop n c.args.line.now)) first in
     in_line c.loop-place.runs c.args.line.now c.loop-place.invariant.3 are c.loop-place.invariant.1 c.told-line

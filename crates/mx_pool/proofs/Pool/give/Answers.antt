@@ -6,18 +6,21 @@ use Rattle.mx_pool.proofs.Pool.give.Goals as goal
 
 pub index_mut-requires : goal.index_mut-requires
 index_mut-requires g c =
-    let mark : get_or c.self.inside.taken.items c.args.frame false ≡ true = is_marked g.row.WORDS _ _ _ c.self.view_is c.args.frame c.requires in
+    let mark : get_or c.self.inside.taken.items c.args.frame false ≡ true =
+    is_marked g.row.WORDS _ _ _ c.self.view_is c.args.frame c.requires in
     let within : c.args.frame < length c.self.inside.taken.items = marked_below _ c.args.frame mark in
     omega arith
 
 pub index_mut-requires-2 : goal.index_mut-requires-2
 index_mut-requires-2 g c =
-    let mark : get_or c.self.inside.taken.items c.args.frame false ≡ true = is_marked g.row.WORDS _ _ _ c.self.view_is c.args.frame c.requires in
+    let mark : get_or c.self.inside.taken.items c.args.frame false ≡ true =
+    is_marked g.row.WORDS _ _ _ c.self.view_is c.args.frame c.requires in
     omega (arith, room_left g.row.WORDS _ _ _ _ c.self.invariant c.args.frame mark)
 
 pub invariant_of-self : goal.invariant_of-self
 invariant_of-self g c =
-    let mark : get_or c.self.inside.taken.items c.args.frame false ≡ true = is_marked g.row.WORDS _ _ _ c.self.view_is c.args.frame c.requires in
+    let mark : get_or c.self.inside.taken.items c.args.frame false ≡ true =
+    is_marked g.row.WORDS _ _ _ c.self.view_is c.args.frame c.requires in
     pool_given g.row.WORDS _ _ _ _ c.self.invariant c.args.frame mark
 
 pub returns : goal.returns

@@ -13,7 +13,11 @@ overflow_add-frame g c = omega (arith, frame_room g.row.WORDS _ _ _ _ c.self.inv
 
 pub are_alike-requires : goal.are_alike-requires
 are_alike-requires g c = record {
-  inside = rw c.deref.ensures.value (omega (arith, frame_room g.row.WORDS _ _ _ _ c.self.invariant _ c.self.view_is c.args.frame c.requires.taken));
+  inside = rw c.deref.ensures.value (omega (
+    arith,
+    frame_room g.row.WORDS _ _ _ _ c.self.invariant _ c.self.view_is c.args.frame
+        c.requires.taken,
+  ));
   some = c.requires.some;
 }
 
@@ -22,11 +26,13 @@ word : (g : Over) (c : goal.After-are_alike g) (k : ℕ) → k < c.args.count �
     word_at c.args.self.now c.args.frame (c.args.from + k) ≡ get_or c.deref.result.now (c.args.frame * g.row.WORDS + c.args.from + k) 0
 word g c k h =
     let at : c.args.frame * g.row.WORDS + (c.args.from + k) ≡ c.args.frame * g.row.WORDS + c.args.from + k = omega arith in
-    word-now g.row.WORDS _ _ _ _ c.self.invariant _ c.self.view_is c.args.frame (c.args.from + k) c.requires.taken (omega (arith, c.requires.within))
+    word-now g.row.WORDS _ _ _ _ c.self.invariant _ c.self.view_is c.args.frame (c.args.from + k) c.requires.taken
+    (omega (arith, c.requires.within))
     ∙ ap (λ n. get_or c.self.inside.words.items n 0) at
     ∙ sym (ap (λ (xs : List ℕ). get_or xs (c.args.frame * g.row.WORDS + c.args.from + k) 0) c.deref.ensures.value)
 
-first : (g : Over) (c : goal.After-are_alike g) → word_at c.args.self.now c.args.frame c.args.from ≡ get_or c.deref.result.now (c.args.frame * g.row.WORDS + c.args.from) 0
+first : (g : Over) (c : goal.After-are_alike g) → word_at c.args.self.now c.args.frame c.args.from
+    ≡ get_or c.deref.result.now (c.args.frame * g.row.WORDS + c.args.from) 0
 first g c =
     let none : c.args.from ≡ c.args.from + 0 = omega arith in
     let same : c.args.frame * g.row.WORDS + c.args.from + 0 ≡ c.args.frame * g.row.WORDS + c.args.from = omega arith in
@@ -34,7 +40,8 @@ first g c =
 
 pub returns : goal.returns
 returns g c = record {
-  yes = λ e k h. word g c k h ∙ c.are_alike.ensures.yes e (c.args.frame * g.row.WORDS + c.args.from + k) (omega arith) (omega arith) ∙ sym (first g c);
+  yes = λ e k h. word g c k h ∙ c.are_alike.ensures.yes e (c.args.frame * g.row.WORDS + c.args.from + k) (omega arith) (omega arith)
+      ∙ sym (first g c);
   no = λ same. c.are_alike.ensures.no (λ i least most.
       let k : ℕ = i - (c.args.frame * g.row.WORDS + c.args.from) in
       let at : c.args.frame * g.row.WORDS + c.args.from + k ≡ i = omega arith in

@@ -14,15 +14,18 @@ pub index_mut-requires : goal.index_mut-requires
 index_mut-requires g c = omega (arith, frame_room g.row.WORDS _ _ _ _ c.self.invariant _ c.self.view_is c.args.frame c.requires.taken)
 
 pub invariant_of-self : goal.invariant_of-self
-invariant_of-self g c = pool_written g.row.WORDS _ _ _ _ c.self.invariant _ (length-set c.self.inside.words.items (c.args.frame * g.row.WORDS + c.args.at) c.args.value)
+invariant_of-self g c = pool_written g.row.WORDS _ _ _ _ c.self.invariant _
+    (length-set c.self.inside.words.items (c.args.frame * g.row.WORDS + c.args.at) c.args.value)
 
 pub returns : goal.returns
 returns g c = record {
   frame = written_frame g.row.WORDS _ _ _ _ c.self.invariant _ c.self.view_is c.args.frame c.args.at c.args.value c.requires.taken;
   elsewhere = λ f ne. elsewhere g.row.WORDS _ _ _ _ c.self.invariant _ c.self.view_is c.args.frame f _ _
       (set_outside g.row.WORDS c.args.frame c.args.at c.args.value c.self.inside.words.items c.requires.within) ne refl;
-  here = written_here g.row.WORDS _ _ _ _ c.self.invariant _ c.self.view_is c.args.frame c.args.at c.args.value c.requires.taken c.requires.within;
-  others = λ k ne. written_others g.row.WORDS _ _ _ _ c.self.invariant _ c.self.view_is c.args.frame c.args.at c.args.value k c.requires.taken ne;
+  here = written_here g.row.WORDS _ _ _ _ c.self.invariant _ c.self.view_is c.args.frame c.args.at c.args.value c.requires.taken
+      c.requires.within;
+  others = λ k ne. written_others g.row.WORDS _ _ _ _ c.self.invariant _ c.self.view_is c.args.frame c.args.at c.args.value k
+      c.requires.taken ne;
   free = written_free g.row.WORDS _ _ _ _ c.self.invariant _ c.self.view_is _;
   total = total g.row.WORDS _ _ _ _ c.self.invariant _ c.self.view_is _ _ refl;
 }

@@ -16,14 +16,19 @@ returns-in_err-put_domain g c =
     let p = err_from_is_err_and c.from_residual.result c.from_residual.ensures.1 in
     let f = c.args.machine.now in
     let n = length c.args.machine.now.core.modules in
-    rw (p.1, p.2) (coming_number_stop _ (c.loop-i.i + 1) (n - c.loop-i.i) (n - (c.loop-i.i + 1)) (one_less _ _ _ c.loop-i-test.true c.modules-i-end.ensures) c.loop-i.invariant (passes_same (ap (λ name. domain_lines (c.loop-i.i + 1) name (module_at f.core (c.loop-i.i + 1)).dead (map_in f.core.size f.maps (c.loop-i.i + 1)))
+    rw (p.1, p.2) (coming_number_stop _ (c.loop-i.i + 1) (n - c.loop-i.i) (n - (c.loop-i.i + 1))
+    (one_less _ _ _ c.loop-i-test.true c.modules-i-end.ensures) c.loop-i.invariant
+    (passes_same (ap (λ name. domain_lines (c.loop-i.i + 1) name (module_at f.core (c.loop-i.i + 1)).dead
+    (map_in f.core.size f.maps (c.loop-i.i + 1)))
     (at_number (λ (name : Bor (List ℕ)). name.now) c.args.names.now c.loop-i.i _ refl)) c.in_err-put_domain.ensures))
 
 pub loop-i-preserved : goal.loop-i-preserved
 loop-i-preserved g c =
     let f = c.args.machine.now in
     let n = length c.args.machine.now.core.modules in
-    coming_number _ (c.loop-i.i + 1) (n - c.loop-i.i) (n - (c.loop-i.i + 1)) (one_less _ _ _ c.loop-i-test.true c.modules-i-end.ensures) c.loop-i.invariant (passes_same (ap (λ name. domain_lines (c.loop-i.i + 1) name (module_at f.core (c.loop-i.i + 1)).dead (map_in f.core.size f.maps (c.loop-i.i + 1)))
+    coming_number _ (c.loop-i.i + 1) (n - c.loop-i.i) (n - (c.loop-i.i + 1)) (one_less _ _ _ c.loop-i-test.true c.modules-i-end.ensures)
+    c.loop-i.invariant (passes_same (ap (λ name. domain_lines (c.loop-i.i + 1) name (module_at f.core (c.loop-i.i + 1)).dead
+    (map_in f.core.size f.maps (c.loop-i.i + 1)))
     (at_number (λ (name : Bor (List ℕ)). name.now) c.args.names.now c.loop-i.i _ refl)) c.in_ok-put_domain.ensures)
 
 pub returns : goal.returns

@@ -16,17 +16,24 @@ pub returns-in_err-put_hart : goal.returns-in_err-put_hart
 returns-in_err-put_hart g c =
     let p = err_from_is_err_and c.from_residual.result c.from_residual.ensures.1 in
     let n = length c.args.machine.now.core.harts in
-    rw (p.1, p.2) (coming_number_stop _ c.loop-hart.hart (n - c.loop-hart.hart) (n - (c.loop-hart.hart + 1)) (one_less _ _ _ c.loop-hart-test.true c.harts-hart-end.ensures) c.loop-hart.invariant (passes_same (ap (view_lines c.loop-hart.hart) (view_is (hart_at c.args.machine.now.core c.loop-hart.hart) c.hart.result c.hart.ensures)) c.in_err-put_hart.ensures))
+    rw (p.1, p.2) (coming_number_stop _ c.loop-hart.hart (n - c.loop-hart.hart) (n - (c.loop-hart.hart + 1))
+    (one_less _ _ _ c.loop-hart-test.true c.harts-hart-end.ensures) c.loop-hart.invariant
+    (passes_same (ap (view_lines c.loop-hart.hart) (view_is (hart_at c.args.machine.now.core c.loop-hart.hart) c.hart.result
+    c.hart.ensures)) c.in_err-put_hart.ensures))
 
 pub loop-hart-preserved : goal.loop-hart-preserved
 loop-hart-preserved g c =
     let n = length c.args.machine.now.core.harts in
-    coming_number _ c.loop-hart.hart (n - c.loop-hart.hart) (n - (c.loop-hart.hart + 1)) (one_less _ _ _ c.loop-hart-test.true c.harts-hart-end.ensures) c.loop-hart.invariant (passes_same (ap (view_lines c.loop-hart.hart) (view_is (hart_at c.args.machine.now.core c.loop-hart.hart) c.hart.result c.hart.ensures)) c.in_ok-put_hart.ensures)
+    coming_number _ c.loop-hart.hart (n - c.loop-hart.hart) (n - (c.loop-hart.hart + 1))
+    (one_less _ _ _ c.loop-hart-test.true c.harts-hart-end.ensures) c.loop-hart.invariant
+    (passes_same (ap (view_lines c.loop-hart.hart) (view_is (hart_at c.args.machine.now.core c.loop-hart.hart) c.hart.result
+    c.hart.ensures)) c.in_ok-put_hart.ensures)
 
 pub returns : goal.returns
 returns g c =
     let n = length c.args.machine.now.core.harts in
-    coming_numbers _ c.loop-hart.hart (n - c.loop-hart.hart) (none_left _ _ _ c.loop-hart-test.false c.harts-hart-end.ensures) c.loop-hart.invariant
+    coming_numbers _ c.loop-hart.hart (n - c.loop-hart.hart) (none_left _ _ _ c.loop-hart-test.false c.harts-hart-end.ensures)
+    c.loop-hart.invariant
 
 pub harts-hart-end-requires : goal.harts-hart-end-requires
 harts-hart-end-requires g c = search

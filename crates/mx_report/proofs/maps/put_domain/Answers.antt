@@ -13,7 +13,8 @@ returns-in_err-put_head g c =
 
 pub returns : goal.returns
 unfolding domain_lines
-returns g c = passes_next (passes_same (ap (domain_head c.args.domain c.args.name.now) c.dead.ensures) c.in_ok-put_head.ensures) (passes_last c.put_maps.ensures)
+returns g c = passes_next (passes_same (ap (domain_head c.args.domain c.args.name.now) c.dead.ensures) c.in_ok-put_head.ensures)
+    (passes_last c.put_maps.ensures)
 
 pub put_maps-requires : goal.put_maps-requires
 put_maps-requires g c = search

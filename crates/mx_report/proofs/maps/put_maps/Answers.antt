@@ -21,7 +21,8 @@ returns-in_err-put_map g c =
     let text = map_text c.args.domain in
     let end = c.perm_end-end.result in
     let told = c.perm_end-end.ensures in
-    let from = map_from text m f.core.size c.runs.word end (c.machine_is_valid.ensures.whole c.args.domain c.requires) told.behind told.within told.same told.ends in
+    let from = map_from text m f.core.size c.runs.word end (c.machine_is_valid.ensures.whole c.args.domain c.requires) told.behind
+    told.within told.same told.ends in
     let p = err_from_is_err_and c.from_residual.result c.from_residual.ensures.1 in
     rw (p.1, p.2)
     (coming_stop (run_texts text end (runs_of same (drop end m))) (coming_same from c.runs.invariant.coming)
@@ -34,7 +35,8 @@ runs-preserved g c =
     let text = map_text c.args.domain in
     let end = c.perm_end-end.result in
     let told = c.perm_end-end.ensures in
-    let from = map_from text m f.core.size c.runs.word end (c.machine_is_valid.ensures.whole c.args.domain c.requires) told.behind told.within told.same told.ends in
+    let from = map_from text m f.core.size c.runs.word end (c.machine_is_valid.ensures.whole c.args.domain c.requires) told.behind
+    told.within told.same told.ends in
     record {
       within = told.within;
       coming = coming_next (coming_same from c.runs.invariant.coming)
@@ -45,7 +47,9 @@ pub returns : goal.returns
 returns g c =
     let f = c.args.machine.now in
     let m = map_in f.core.size f.maps c.args.domain in
-    coming_none (coming_same (map_behind (map_text c.args.domain) m c.runs.word (omega (arith, c.runs-test.false, c.words.ensures, c.machine_is_valid.ensures.whole c.args.domain c.requires))) c.runs.invariant.coming)
+    coming_none (coming_same (map_behind (map_text c.args.domain) m c.runs.word
+    (omega (arith, c.runs-test.false, c.words.ensures, c.machine_is_valid.ensures.whole c.args.domain c.requires)))
+    c.runs.invariant.coming)
 
 pub machine_is_valid-requires : goal.machine_is_valid-requires
 machine_is_valid-requires g c = search

@@ -14,7 +14,8 @@ invariant-runs g l =
     let m = map_in f.core.size f.maps l.domain in
     record {
       within : l.word ≤ f.core.size;
-      coming : Coming l.initial.tail (g.R.Sink.state l.initial.sink) (map_lines l.domain m) l.tail (g.R.Sink.state l.sink) (run_texts (map_text l.domain) l.word (runs_of same (drop l.word m)));
+      coming : Coming l.initial.tail (g.R.Sink.state l.initial.sink) (map_lines l.domain m) l.tail (g.R.Sink.state l.sink)
+          (run_texts (map_text l.domain) l.word (runs_of same (drop l.word m)));
     }
 
 abbrev pub decreases-runs : goal.decreases-runs

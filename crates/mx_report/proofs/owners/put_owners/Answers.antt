@@ -21,7 +21,8 @@ returns-in_err-put_owner g c =
     let p = err_from_is_err_and c.from_residual.result c.from_residual.ensures.1 in
     rw (p.1, p.2)
     (coming_stop (run_texts owner_text end (runs_of (λ a b. a == b) (drop end os)))
-    (coming_same (owners_from owner_text os c.runs.word end run.behind (omega (arith, run.within, whole)) run.same (λ lt. run.ends (omega (arith, whole)))) c.runs.invariant.coming)
+    (coming_same (owners_from owner_text os c.runs.word end run.behind (omega (arith, run.within, whole)) run.same (λ lt.
+    run.ends (omega (arith, whole)))) c.runs.invariant.coming)
     (passes_same (ap (owner_text c.runs.word end) c.owner.ensures) c.in_err-put_owner.ensures))
 
 pub runs-preserved : goal.runs-preserved
@@ -33,14 +34,16 @@ runs-preserved g c =
     record {
       within = run.within;
       coming = coming_next
-          (coming_same (owners_from owner_text os c.runs.word end run.behind (omega (arith, run.within, whole)) run.same (λ lt. run.ends (omega (arith, whole)))) c.runs.invariant.coming)
+          (coming_same (owners_from owner_text os c.runs.word end run.behind (omega (arith, run.within, whole)) run.same (λ lt.
+          run.ends (omega (arith, whole)))) c.runs.invariant.coming)
           (passes_same (ap (owner_text c.runs.word end) c.owner.ensures) c.in_ok-put_owner.ensures);
     }
 
 pub returns : goal.returns
 returns g c =
     let os = c.args.machine.now.owners in
-    coming_none (coming_same (owners_behind owner_text os c.runs.word (omega (arith, c.runs-test.false, c.words.ensures, c.machine_is_valid.ensures.owners))) c.runs.invariant.coming)
+    coming_none (coming_same (owners_behind owner_text os c.runs.word
+    (omega (arith, c.runs-test.false, c.words.ensures, c.machine_is_valid.ensures.owners))) c.runs.invariant.coming)
 
 pub machine_is_valid-requires : goal.machine_is_valid-requires
 machine_is_valid-requires g c = search

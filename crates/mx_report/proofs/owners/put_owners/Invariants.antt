@@ -11,7 +11,8 @@ invariant-runs g l =
     let os = l.machine.owners in
     record {
       within : l.word ≤ l.machine.core.size;
-      coming : Coming l.initial.tail (g.R.Sink.state l.initial.sink) (owner_lines os) l.tail (g.R.Sink.state l.sink) (run_texts owner_text l.word (runs_of (λ a b. a == b) (drop l.word os)));
+      coming : Coming l.initial.tail (g.R.Sink.state l.initial.sink) (owner_lines os) l.tail (g.R.Sink.state l.sink)
+          (run_texts owner_text l.word (runs_of (λ a b. a == b) (drop l.word os)));
     }
 
 abbrev pub decreases-runs : goal.decreases-runs

@@ -15,8 +15,10 @@ returns-then-ne g c =
     let small : c.spans.word < f.core.size = omega (arith, c.spans-test.true, c.requires.inside) in
     let round = walk_round f c.args.domain c.spans.word c.span-span.result c.span-span.ensures whole small in
     let low = c.spans.invariant.low in
-    sym (some_right m c.args.first c.args.count c.spans.word (omega (arith, whole, c.requires.inside)) low (omega (arith, c.spans-test.true))
-    (λ e. differs_true the_type c.span-span.result.perm P.None (sym c.if-ne.ensures) (round_perm m c.spans.word c.span-span.result round ∙ e)))
+    sym (some_right m c.args.first c.args.count c.spans.word (omega (arith, whole, c.requires.inside)) low
+    (omega (arith, c.spans-test.true))
+    (λ e. differs_true the_type c.span-span.result.perm P.None (sym c.if-ne.ensures) (round_perm m c.spans.word c.span-span.result round
+    ∙ e)))
 
 pub overflow_add-word : goal.overflow_add-word
 overflow_add-word g c =
@@ -48,7 +50,8 @@ spans-preserved g c =
     let right = round.right in
     record {
       low = omega arith;
-      none = none_more m c.args.first c.spans.word c.span-span.result c.spans.invariant.none round (differs_false the_type (search rules) c.span-span.result.perm P.None (sym c.if-ne.ensures));
+      none = none_more m c.args.first c.spans.word c.span-span.result c.spans.invariant.none round
+          (differs_false the_type (search rules) c.span-span.result.perm P.None (sym c.if-ne.ensures));
     }
 
 pub returns : goal.returns

@@ -15,17 +15,24 @@ pub returns-in_err-put_hart_counts : goal.returns-in_err-put_hart_counts
 returns-in_err-put_hart_counts g c =
     let p = err_from_is_err_and c.from_residual.result c.from_residual.ensures.1 in
     let n = length c.args.machine.now.core.harts in
-    rw (p.1, p.2) (coming_number_stop _ c.loop-hart.hart (n - c.loop-hart.hart) (n - (c.loop-hart.hart + 1)) (one_less _ _ _ c.loop-hart-test.true c.harts-hart-end.ensures) c.loop-hart.invariant (passes_same (told_counts c.loop-hart.hart _ _ _ (cache_at c.args.machine.now.core c.loop-hart.hart) c.counts.ensures.sidecar c.counts.ensures.lookaside c.counts.ensures.walks) c.in_err-put_hart_counts.ensures))
+    rw (p.1, p.2) (coming_number_stop _ c.loop-hart.hart (n - c.loop-hart.hart) (n - (c.loop-hart.hart + 1))
+    (one_less _ _ _ c.loop-hart-test.true c.harts-hart-end.ensures) c.loop-hart.invariant
+    (passes_same (told_counts c.loop-hart.hart _ _ _ (cache_at c.args.machine.now.core c.loop-hart.hart) c.counts.ensures.sidecar
+    c.counts.ensures.lookaside c.counts.ensures.walks) c.in_err-put_hart_counts.ensures))
 
 pub loop-hart-preserved : goal.loop-hart-preserved
 loop-hart-preserved g c =
     let n = length c.args.machine.now.core.harts in
-    coming_number _ c.loop-hart.hart (n - c.loop-hart.hart) (n - (c.loop-hart.hart + 1)) (one_less _ _ _ c.loop-hart-test.true c.harts-hart-end.ensures) c.loop-hart.invariant (passes_same (told_counts c.loop-hart.hart _ _ _ (cache_at c.args.machine.now.core c.loop-hart.hart) c.counts.ensures.sidecar c.counts.ensures.lookaside c.counts.ensures.walks) c.in_ok-put_hart_counts.ensures)
+    coming_number _ c.loop-hart.hart (n - c.loop-hart.hart) (n - (c.loop-hart.hart + 1))
+    (one_less _ _ _ c.loop-hart-test.true c.harts-hart-end.ensures) c.loop-hart.invariant
+    (passes_same (told_counts c.loop-hart.hart _ _ _ (cache_at c.args.machine.now.core c.loop-hart.hart) c.counts.ensures.sidecar
+    c.counts.ensures.lookaside c.counts.ensures.walks) c.in_ok-put_hart_counts.ensures)
 
 pub returns : goal.returns
 returns g c =
     let n = length c.args.machine.now.core.harts in
-    coming_numbers _ c.loop-hart.hart (n - c.loop-hart.hart) (none_left _ _ _ c.loop-hart-test.false c.harts-hart-end.ensures) c.loop-hart.invariant
+    coming_numbers _ c.loop-hart.hart (n - c.loop-hart.hart) (none_left _ _ _ c.loop-hart-test.false c.harts-hart-end.ensures)
+    c.loop-hart.invariant
 
 pub harts-hart-end-requires : goal.harts-hart-end-requires
 harts-hart-end-requires g c = search

@@ -68,11 +68,13 @@ items-preserved g c =
     let inside = (shown_round f c.args.domain c.items.word c.shown-item.result c.shown-item.ensures whole small).inside in
     let lt : c.items.word < length m = omega (arith, whole) in
     let at = c.items.invariant.begins lt in
-    let next : (stored f.core.kind m c.items.word).first + (stored f.core.kind m c.items.word).count ≡ c.shown-item.result.first + c.shown-item.result.count =
+    let next : (stored f.core.kind m c.items.word).first + (stored f.core.kind m c.items.word).count ≡ c.shown-item.result.first
+    + c.shown-item.result.count =
     ap (λ (x : Shown). x.first + x.count) (sym c.shown-item.ensures) in
     record {
       within = omega (arith, whole, inside);
-      begins = λ more. sym (ap (λ w. (stored f.core.kind m w).first) next) ∙ next_begins c.args.domain f.core.kind m c.items.word lt at (omega (arith, next)) ∙ next;
+      begins = λ more. sym (ap (λ w. (stored f.core.kind m w).first) next)
+          ∙ next_begins c.args.domain f.core.kind m c.items.word lt at (omega (arith, next)) ∙ next;
       coming = coming_same (ap (λ w. flat_map (item_text c.args.domain f.core.kind m) (range_with_len w (length m - w))) next)
           (coming_next (coming_same (items_from c.args.domain f.core.kind m c.items.word lt at) c.items.invariant.coming)
           (passes_same (ap (shown_text c.args.domain m) c.shown-item.ensures) c.in_ok-put_item.ensures));
@@ -83,7 +85,8 @@ returns g c =
     let f = c.args.machine.now in
     let m = map_in f.core.size f.maps c.args.domain in
     let whole = c.machine_is_valid.ensures.whole c.args.domain c.requires in
-    coming_numbers (item_text c.args.domain f.core.kind m) c.items.word (length m - c.items.word) (omega (arith, c.items-test.false, c.words.ensures, whole)) c.items.invariant.coming
+    coming_numbers (item_text c.args.domain f.core.kind m) c.items.word (length m - c.items.word)
+    (omega (arith, c.items-test.false, c.words.ensures, whole)) c.items.invariant.coming
 
 pub machine_is_valid-requires : goal.machine_is_valid-requires
 machine_is_valid-requires g c = search

@@ -13,12 +13,14 @@ pub returns-in_err-put_domain_items : goal.returns-in_err-put_domain_items
 returns-in_err-put_domain_items g c =
     let p = err_from_is_err_and c.from_residual.result c.from_residual.ensures.1 in
     let n = length c.args.machine.now.core.modules in
-    rw (p.1, p.2) (coming_number_stop _ (c.loop-i.i + 1) (n - c.loop-i.i) (n - (c.loop-i.i + 1)) (one_less _ _ _ c.loop-i-test.true c.modules-i-end.ensures) c.loop-i.invariant (c.in_err-put_domain_items.ensures))
+    rw (p.1, p.2) (coming_number_stop _ (c.loop-i.i + 1) (n - c.loop-i.i) (n - (c.loop-i.i + 1))
+    (one_less _ _ _ c.loop-i-test.true c.modules-i-end.ensures) c.loop-i.invariant (c.in_err-put_domain_items.ensures))
 
 pub loop-i-preserved : goal.loop-i-preserved
 loop-i-preserved g c =
     let n = length c.args.machine.now.core.modules in
-    coming_number _ (c.loop-i.i + 1) (n - c.loop-i.i) (n - (c.loop-i.i + 1)) (one_less _ _ _ c.loop-i-test.true c.modules-i-end.ensures) c.loop-i.invariant (c.in_ok-put_domain_items.ensures)
+    coming_number _ (c.loop-i.i + 1) (n - c.loop-i.i) (n - (c.loop-i.i + 1)) (one_less _ _ _ c.loop-i-test.true c.modules-i-end.ensures)
+    c.loop-i.invariant (c.in_ok-put_domain_items.ensures)
 
 pub returns : goal.returns
 returns g c =

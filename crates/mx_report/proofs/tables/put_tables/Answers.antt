@@ -10,12 +10,14 @@ pub returns-in_err-put_used : goal.returns-in_err-put_used
 unfolding table_lines
 returns-in_err-put_used g c =
     let p = err_from_is_err_and c.from_residual.result c.from_residual.ensures.1 in
-    rw (p.1, p.2) (passes_stop _ _ (passes_same (ap (λ (u : Need). tables_line c.args.kind u c.args.limit) c.used.ensures) c.in_err-put_used.ensures))
+    rw (p.1, p.2) (passes_stop _ _ (passes_same (ap (λ (u : Need). tables_line c.args.kind u c.args.limit) c.used.ensures)
+    c.in_err-put_used.ensures))
 
 pub returns : goal.returns
 unfolding table_lines
 returns g c =
-    passes_next (passes_same (ap (λ (u : Need). tables_line c.args.kind u c.args.limit) c.used.ensures) c.in_ok-put_used.ensures) (passes_last c.put_items.ensures)
+    passes_next (passes_same (ap (λ (u : Need). tables_line c.args.kind u c.args.limit) c.used.ensures) c.in_ok-put_used.ensures)
+    (passes_last c.put_items.ensures)
 
 pub used-requires : goal.used-requires
 used-requires g c = search

@@ -25,7 +25,8 @@ live-preserved c =
     let place = c.in_ok-block.ensures.place in
     let from = ap (λ (a : Area). behind a heap.blocks) (sym inv.area) ∙ inv.from in
     let end = ap (λ (a : Area). a.first + a.count) (sym inv.area) ∙ inv.end in
-    let lives = block_lives heap c.live.from b inv.apart place.1 place.0 (omega (arith, place.2, inv.end)) (omega (arith, inv.long, c.live-test.true, c.requires.few)) in
+    let lives = block_lives heap c.live.from b inv.apart place.1 place.0 (omega (arith, place.2, inv.end))
+    (omega (arith, inv.long, c.live-test.true, c.requires.few)) in
     let new = on_true _ _ (c.restore.ensures.restored ∙ lives) c.restore.ensures.live in
     let blocks = ap (λ (h : HeapState). h.blocks) new ∙ block_last heap.area.first c.live.from b heap.blocks inv.apart place.1 place.0 in
     let area = ap (λ (h : HeapState). h.area) new in
@@ -33,9 +34,12 @@ live-preserved c =
       area = area ∙ inv.area;
       long = ap length blocks ∙ count_more heap.blocks b ∙ ap (λ (k : ℕ). k + 1) inv.long;
       end = ap (λ (a : Area). a.first + a.count) area ∙ inv.end;
-      from = ap (λ (a : Area). behind a c.restore.new.self.blocks) area ∙ ap (behind heap.area) blocks ∙ behind_more heap.area heap.blocks b;
+      from = ap (λ (a : Area). behind a c.restore.new.self.blocks) area ∙ ap (behind heap.area) blocks
+          ∙ behind_more heap.area heap.blocks b;
       apart = subst (λ (a : Area). AreApart a.first (b.first + b.count) c.restore.new.self.blocks) (sym area)
-          (subst (λ (bs : List Area). AreApart heap.area.first (b.first + b.count) bs) (sym blocks) (apart_more heap.area.first c.live.from b heap.blocks inv.apart place.1 place.0));
-      left = subst (λ (bs : List Area). Left (block_in c.args.heap.now.area) c.args.bytes.now c.args.count c.args.at.now (c.live.counter + 1) bs c.block.new.at) (sym blocks)
+          (subst (λ (bs : List Area). AreApart heap.area.first (b.first + b.count) bs) (sym blocks)
+          (apart_more heap.area.first c.live.from b heap.blocks inv.apart place.1 place.0));
+      left = subst (λ (bs : List Area). Left (block_in c.args.heap.now.area) c.args.bytes.now c.args.count c.args.at.now
+          (c.live.counter + 1) bs c.block.new.at) (sym blocks)
           (left_next c.live-test.true inv.left (c.in_ok-block.ensures.taken c.args.heap.now.area heap.blocks from end));
     }

@@ -15,6 +15,7 @@ returns-in_err-frame c =
 pub frames-preserved : goal.frames-preserved
 frames-preserved c = record {
   long = ap length c.in-Ok.ensures.ok ∙ count_more c.frames.frames c.in_ok-frame.frame ∙ ap (λ (k : ℕ). k + 1) c.frames.invariant.long;
-  left = subst (λ (fs : List Frame). Left (frame_in (head_seen c.args.head.now)) c.args.bytes.now c.args.count c.args.at.now (c.frames.counter + 1) fs c.frame.new.at) (sym c.in-Ok.ensures.ok)
+  left = subst (λ (fs : List Frame). Left (frame_in (head_seen c.args.head.now)) c.args.bytes.now c.args.count c.args.at.now
+      (c.frames.counter + 1) fs c.frame.new.at) (sym c.in-Ok.ensures.ok)
       (left_next c.frames-test.true c.frames.invariant.left (c.in_ok-frame.ensures c.frames.frames));
 }

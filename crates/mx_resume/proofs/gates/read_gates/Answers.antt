@@ -16,7 +16,8 @@ returns-in_err-gate c =
 pub unreachable-requires : goal.unreachable-requires
 unreachable-requires c =
     let long = c.gates.invariant.long in
-    let none : no_gate_fits c.gates.gates c.in_ok-gate.gate.domain c.in_ok-gate.gate.word ≡ false = room_left c.gates.gates _ _ (omega (arith, long, c.gates-test.true, c.requires)) in
+    let none : no_gate_fits c.gates.gates c.in_ok-gate.gate.domain c.in_ok-gate.gate.word ≡ false =
+    room_left c.gates.gates _ _ (omega (arith, long, c.gates-test.true, c.requires)) in
     let full = c.in-Err.ensures.full in
     let q : ⊥ = cc in q
 
@@ -24,10 +25,12 @@ pub gates-preserved : goal.gates-preserved
 gates-preserved c =
     let gate = c.in_ok-gate.gate in
     let new : c.add.new.self ≡ c.gates.gates ++ gate ∷ [] =
-    c.in-Ok.ensures.ok ∙ ap (λ (gs : List Gate). gs ++ gate ∷ []) (none_left_out gate.domain gate.word c.gates.gates c.in_ok-gate.ensures.free) in
+    c.in-Ok.ensures.ok ∙ ap (λ (gs : List Gate). gs ++ gate ∷ [])
+    (none_left_out gate.domain gate.word c.gates.gates c.in_ok-gate.ensures.free) in
     record {
       long = ap length new ∙ count_more c.gates.gates gate ∙ ap (λ (k : ℕ). k + 1) c.gates.invariant.long;
-      left = subst (λ (gs : List Gate). Left (gate_in (head_seen c.args.head.now)) c.args.bytes.now c.args.count c.args.at.now (c.gates.counter + 1) gs c.gate.new.at) (sym new)
+      left = subst (λ (gs : List Gate). Left (gate_in (head_seen c.args.head.now)) c.args.bytes.now c.args.count c.args.at.now
+          (c.gates.counter + 1) gs c.gate.new.at) (sym new)
           (left_next c.gates-test.true c.gates.invariant.left c.in_ok-gate.ensures.taken);
     }
 

@@ -11,7 +11,8 @@ returns-in_err-owners c =
     rw (p.1, p.2) (misses_memory _ _ c.in_err-owners.ensures.memory)
 
 pub runs-init : goal.runs-init
-runs-init c = given-none (head_seen c.args.head.now) c.args.bytes.now c.args.runs c.args.at.now c.in_ok-owners.owners c.in_ok-owners.ensures.owners
+runs-init c = given-none (head_seen c.args.head.now) c.args.bytes.now c.args.runs c.args.at.now c.in_ok-owners.owners
+    c.in_ok-owners.ensures.owners
 
 pub returns-in_err-run : goal.returns-in_err-run
 returns-in_err-run c =
@@ -26,12 +27,14 @@ pub give-requires-clause-in_ram : goal.give-requires-clause-in_ram
 give-requires-clause-in_ram c = in-ram _ _ _ _ _ _ _ _ _ c.runs.invariant (owner_run_seen c.in_ok-run.run') c.in_ok-run.ensures.place
 
 pub give-requires-clause-few : goal.give-requires-clause-few
-give-requires-clause-few c = few-given _ _ _ _ _ _ _ _ _ c.runs.invariant (owner_run_seen c.in_ok-run.run') c.in_ok-run.ensures.place c.runs-test.true c.requires.runs
+give-requires-clause-few c = few-given _ _ _ _ _ _ _ _ _ c.runs.invariant (owner_run_seen c.in_ok-run.run') c.in_ok-run.ensures.place
+    c.runs-test.true c.requires.runs
 
 pub runs-preserved : goal.runs-preserved
 runs-preserved c =
     let g = c.runs.invariant in
-    given-next _ _ _ _ _ _ _ _ _ g (owner_run_seen c.in_ok-run.run') c.in_ok-run.ensures.place c.owner_run.new.at c.give.new.owners c.runs-test.true
+    given-next _ _ _ _ _ _ _ _ _ g (owner_run_seen c.in_ok-run.run') c.in_ok-run.ensures.place c.owner_run.new.at c.give.new.owners
+    c.runs-test.true
     (c.in_ok-run.ensures.taken g.before (extent-of _ _ _ _ _ _ _ _ _ g) g.value) c.give.ensures
 
 pub returns : goal.returns

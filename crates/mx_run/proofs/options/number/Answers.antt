@@ -12,4 +12,8 @@ loop-digit-preserved c =
     let more = digits_value_more 10 digits i c.loop-digit-test.true in
     let is = digit_value_is (get_or digits i 0) digit in
     let next = pow_next i in
-    record { value = grind (arith, more, is, c.from.ensures, c.loop-digit.invariant.value); bound = omega (arith, next, c.from.ensures, c.loop-digit.invariant.bound) }
+    record {
+      value = grind (arith, more, is, c.from.ensures, c.loop-digit.invariant.value);
+      bound =
+          omega (arith, next, c.from.ensures, c.loop-digit.invariant.bound);
+    }

@@ -3,4 +3,5 @@ use Rattle.std.specs.Vec.Iter.{into_iter_items}
 use Rattle.mx_run.proofs.program.read_words.Given as goal
 
 abbrev pub invariant-words : goal.invariant-words
-invariant-words l = l.words ++ map string_bytes (into_iter_items l.word-iterator) ≡ map string_bytes (into_iter_items l.initial.word-iterator)
+invariant-words l = l.words ++ map string_bytes (into_iter_items l.word-iterator)
+    ≡ map string_bytes (into_iter_items l.initial.word-iterator)

@@ -11,7 +11,8 @@ use Rattle.mx_run.proofs.top.react.Goals as goal
 
 pub returns-in-Some-Go : goal.returns-in-Some-Go
 returns-in-Some-Go g c =
-    let asked : Some (Go (order_of c.in-Some-Go.order)) ≡ meaning c.args.words.now = rw c.in-Some-Go.field-0-is at c.in-Some-Go.ensures.meaning in
+    let asked : Some (Go (order_of c.in-Some-Go.order)) ≡ meaning c.args.words.now =
+    rw c.in-Some-Go.field-0-is at c.in-Some-Go.ensures.meaning in
     subst
     (λ (request : Option Request). Reacts request g.S.Store.gives c.args.store.now c.go.new.store
     (sinks (g.C.Sink.state c.args.console.now) (g.R.Sink.state c.args.report.now) (g.D.Sink.state c.args.dump.now))
@@ -20,30 +21,38 @@ returns-in-Some-Go g c =
 
 pub returns-in-Some-Asm : goal.returns-in-Some-Asm
 returns-in-Some-Asm g c =
-    let asked : Some (Asm c.in-Some-Asm.source.now) ≡ meaning c.args.words.now = rw c.in-Some-Asm.field-0-is at c.in-Some-Asm.ensures.meaning in
+    let asked : Some (Asm c.in-Some-Asm.source.now) ≡ meaning c.args.words.now =
+    rw c.in-Some-Asm.field-0-is at c.in-Some-Asm.ensures.meaning in
     subst
     (λ (request : Option Request). Reacts request g.S.Store.gives c.args.store.now c.write_image.new.store
     (sinks (g.C.Sink.state c.args.console.now) (g.R.Sink.state c.args.report.now) (g.D.Sink.state c.args.dump.now))
-    (sinks (g.C.Sink.state c.write_image.new.console) (g.R.Sink.state c.write_image.new.report) (g.D.Sink.state c.args.dump.now)) c.write_image.result)
+    (sinks (g.C.Sink.state c.write_image.new.console) (g.R.Sink.state c.write_image.new.report) (g.D.Sink.state c.args.dump.now))
+    c.write_image.result)
     asked (reacts_some g.S.Store.gives (Asm c.in-Some-Asm.source.now) _ _ (c.write_image.ensures (g.D.Sink.state c.args.dump.now)))
 
 pub returns-in-Some-Audit : goal.returns-in-Some-Audit
 returns-in-Some-Audit g c =
-    let asked : Some (Audit c.in-Some-Audit.name.now) ≡ meaning c.args.words.now = rw c.in-Some-Audit.field-0-is at c.in-Some-Audit.ensures.meaning in
+    let asked : Some (Audit c.in-Some-Audit.name.now) ≡ meaning c.args.words.now =
+    rw c.in-Some-Audit.field-0-is at c.in-Some-Audit.ensures.meaning in
     subst
     (λ (request : Option Request). Reacts request g.S.Store.gives c.args.store.now c.audit_manifest.new.store
     (sinks (g.C.Sink.state c.args.console.now) (g.R.Sink.state c.args.report.now) (g.D.Sink.state c.args.dump.now))
-    (sinks (g.C.Sink.state c.args.console.now) (g.R.Sink.state c.audit_manifest.new.report) (g.D.Sink.state c.args.dump.now)) c.audit_manifest.result)
-    asked (reacts_some g.S.Store.gives (Audit c.in-Some-Audit.name.now) _ _ (c.audit_manifest.ensures (g.C.Sink.state c.args.console.now) (g.D.Sink.state c.args.dump.now)))
+    (sinks (g.C.Sink.state c.args.console.now) (g.R.Sink.state c.audit_manifest.new.report) (g.D.Sink.state c.args.dump.now))
+    c.audit_manifest.result)
+    asked (reacts_some g.S.Store.gives (Audit c.in-Some-Audit.name.now) _ _
+    (c.audit_manifest.ensures (g.C.Sink.state c.args.console.now) (g.D.Sink.state c.args.dump.now)))
 
 pub returns-in-Some-Twin : goal.returns-in-Some-Twin
 returns-in-Some-Twin g c =
-    let asked : Some (Twin (pair_asked c.in-Some-Twin.pair)) ≡ meaning c.args.words.now = rw c.in-Some-Twin.field-0-is at c.in-Some-Twin.ensures.meaning in
+    let asked : Some (Twin (pair_asked c.in-Some-Twin.pair)) ≡ meaning c.args.words.now =
+    rw c.in-Some-Twin.field-0-is at c.in-Some-Twin.ensures.meaning in
     subst
     (λ (request : Option Request). Reacts request g.S.Store.gives c.args.store.now c.compare_manifests.new.store
     (sinks (g.C.Sink.state c.args.console.now) (g.R.Sink.state c.args.report.now) (g.D.Sink.state c.args.dump.now))
-    (sinks (g.C.Sink.state c.args.console.now) (g.R.Sink.state c.compare_manifests.new.report) (g.D.Sink.state c.args.dump.now)) c.compare_manifests.result)
-    asked (reacts_some g.S.Store.gives (Twin (pair_asked c.in-Some-Twin.pair)) _ _ (c.compare_manifests.ensures (g.C.Sink.state c.args.console.now) (g.D.Sink.state c.args.dump.now)))
+    (sinks (g.C.Sink.state c.args.console.now) (g.R.Sink.state c.compare_manifests.new.report) (g.D.Sink.state c.args.dump.now))
+    c.compare_manifests.result)
+    asked (reacts_some g.S.Store.gives (Twin (pair_asked c.in-Some-Twin.pair)) _ _
+    (c.compare_manifests.ensures (g.C.Sink.state c.args.console.now) (g.D.Sink.state c.args.dump.now)))
 
 pub returns-in-Some-Mill : goal.returns-in-Some-Mill
 returns-in-Some-Mill g c =
@@ -51,9 +60,11 @@ returns-in-Some-Mill g c =
     subst
     (λ (request : Option Request). Reacts request g.S.Store.gives c.args.store.now c.args.store.now
     (sinks (g.C.Sink.state c.args.console.now) (g.R.Sink.state c.args.report.now) (g.D.Sink.state c.args.dump.now))
-    (sinks (g.C.Sink.state c.args.console.now) (g.R.Sink.state c.write_mill.new.report) (g.D.Sink.state c.args.dump.now)) c.write_mill.result)
+    (sinks (g.C.Sink.state c.args.console.now) (g.R.Sink.state c.write_mill.new.report) (g.D.Sink.state c.args.dump.now))
+    c.write_mill.result)
     asked (reacts_some g.S.Store.gives (Mill c.in-Some-Mill.k) _ _
-    (continues_end g.S.Store.gives (λ more. End (reported (mill_text c.in-Some-Mill.k))) (reported (mill_text c.in-Some-Mill.k)) refl c.args.store.now
+    (continues_end g.S.Store.gives (λ more. End (reported (mill_text c.in-Some-Mill.k))) (reported (mill_text c.in-Some-Mill.k)) refl
+    c.args.store.now
     (c.write_mill.ensures (g.C.Sink.state c.args.console.now) (g.D.Sink.state c.args.dump.now))))
 
 pub returns-in-None : goal.returns-in-None
@@ -62,4 +73,5 @@ returns-in-None g c =
     (λ (request : Option Request). Reacts request g.S.Store.gives c.args.store.now c.args.store.now
     (sinks (g.C.Sink.state c.args.console.now) (g.R.Sink.state c.args.report.now) (g.D.Sink.state c.args.dump.now))
     (sinks (g.C.Sink.state c.args.console.now) (g.R.Sink.state c.refuse.new.report) (g.D.Sink.state c.args.dump.now)) c.refuse.result)
-    c.in-None.ensures.meaning (reacts_none g.S.Store.gives _ (c.refuse.ensures (g.C.Sink.state c.args.console.now) (g.D.Sink.state c.args.dump.now)))
+    c.in-None.ensures.meaning (reacts_none g.S.Store.gives _ (c.refuse.ensures (g.C.Sink.state c.args.console.now)
+    (g.D.Sink.state c.args.dump.now)))

@@ -5,4 +5,5 @@ use Rattle.mx_run.specs.Words.{Stands, with_word}
 use Rattle.mx_run.proofs.words.with_options.Given as goal
 
 abbrev pub invariant-loop-option : goal.invariant-loop-option
-invariant-loop-option l = fold (with_word l.asker) (parsed_of l.parse) (map string_bytes (drop l.option-index l.options)) ≡ fold (with_word l.asker) (Stands None nothing) (map string_bytes l.options)
+invariant-loop-option l = fold (with_word l.asker) (parsed_of l.parse) (map string_bytes (drop l.option-index l.options))
+    ≡ fold (with_word l.asker) (Stands None nothing) (map string_bytes l.options)

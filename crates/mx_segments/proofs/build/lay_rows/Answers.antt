@@ -39,7 +39,9 @@ loop-row-preserved c =
         | inr ne ↦ (kept_map words fs ls fs' ls' row one.others q ne (inv.sound q (omega arith)) ∙ inv.maps q (omega arith))
       ];
       same_room = one.same_room ∙ inv.same_room;
-      empty = λ q from. (let ne : q ≡ row → ⊥ = λ e. omega arith in ap (λ (l : List ℕ). length l) (one.others.chains q ne) ∙ inv.empty q (omega arith));
-      free = free_step _ _ _ _ _ _ _ one.free inv.free (sum_by_more (λ (r : List Span). segment_frames (row_map words r)) rows row [] within)
+      empty = λ q from. (let ne : q ≡ row → ⊥ = λ e. omega arith in ap (λ (l : List ℕ). length l) (one.others.chains q ne)
+          ∙ inv.empty q (omega arith));
+      free = free_step _ _ _ _ _ _ _ one.free inv.free (sum_by_more (λ (r : List Span). segment_frames (row_map words r)) rows row []
+          within)
           (ap (λ (r : List Span). segment_frames (row_map words r)) here);
     }

@@ -18,4 +18,5 @@ returns-then-eq c told =
     let m = map_in c.args.words c.args.leaf.now c.args.chains.now.lists c.args.row in
     let long = c.requires.sound.length_is in
     run_has m c.args.first c.args.count c.args.perm c.run_in-run.result (omega (arith, long)) c.run_in-run.ensures
-    (same_true the_type (search rules) _ _ (sym c.if-eq.ensures)) (leb-true (c.args.first + c.args.count) (c.run_in-run.result.first + c.run_in-run.result.count) told)
+    (same_true the_type (search rules) _ _ (sym c.if-eq.ensures))
+    (leb-true (c.args.first + c.args.count) (c.run_in-run.result.first + c.run_in-run.result.count) told)

@@ -4,12 +4,19 @@ use Rattle.mx_segments.proofs.entries.perm_in.Goals as goal
 
 pub overflow_sub-behind : goal.overflow_sub-behind
 overflow_sub-behind c =
-    omega (arith, c.runs_before-behind.ensures, some_before c.args.words c.args.leaf.now c.args.chains.now.lists c.args.row c.requires.sound c.args.at c.requires.word)
+    omega (
+      arith,
+      c.runs_before-behind.ensures,
+      some_before c.args.words c.args.leaf.now c.args.chains.now.lists c.args.row c.requires.sound
+          c.args.at c.requires.word,
+    )
 
 pub word-requires-clause-place : goal.word-requires-clause-place
 word-requires-clause-place c =
-    place_held c.args.words c.args.leaf.now c.args.chains.now.lists c.args.row c.requires.sound c.args.at c.runs_before-behind.result c.requires.word c.runs_before-behind.ensures
+    place_held c.args.words c.args.leaf.now c.args.chains.now.lists c.args.row c.requires.sound c.args.at c.runs_before-behind.result
+    c.requires.word c.runs_before-behind.ensures
 
 pub returns : goal.returns
 returns c =
-    c.entry_perm.ensures ∙ perm_read c.args.words c.args.leaf.now c.args.chains.now.lists c.args.row c.requires.sound c.args.at c.runs_before-behind.result c.word.result c.requires.word c.runs_before-behind.ensures c.word.ensures
+    c.entry_perm.ensures ∙ perm_read c.args.words c.args.leaf.now c.args.chains.now.lists c.args.row c.requires.sound c.args.at
+    c.runs_before-behind.result c.word.result c.requires.word c.runs_before-behind.ensures c.word.ensures

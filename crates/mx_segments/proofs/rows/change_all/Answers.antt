@@ -27,11 +27,14 @@ loop-row-preserved c =
         | inr ne ↦ kept_sound words fs ls fs' ls' row one.others q ne (inv.sound q lt)
       ];
       done = λ q lt. elim (cases_eq q row) [
-        | inl e ↦ (let D : ℕ → Type 0 = λ x. map_in words fs' ls' x ≡ changed_map change.first change.count (given change (x + 1)) (map_in words c.args.leaf.now c.args.chains.now.lists x) in
-            subst D (sym e) (one.changed ∙ ap (changed_map change.first change.count (given change (row + 1))) (inv.left row (omega arith) within)))
+        | inl e ↦ (let D : ℕ → Type 0 = λ x. map_in words fs' ls' x
+            ≡ changed_map change.first change.count (given change (x + 1)) (map_in words c.args.leaf.now c.args.chains.now.lists x) in
+            subst D (sym e) (one.changed ∙ ap (changed_map change.first change.count (given change (row + 1)))
+            (inv.left row (omega arith) within)))
         | inr ne ↦ (kept_map words fs ls fs' ls' row one.others q ne (inv.sound q (omega arith)) ∙ inv.done q (omega arith))
       ];
-      left = λ q from lt. (let ne : q ≡ row → ⊥ = λ e. omega arith in kept_map words fs ls fs' ls' row one.others q ne (inv.sound q lt) ∙ inv.left q (omega arith) lt);
+      left = λ q from lt. (let ne : q ≡ row → ⊥ = λ e. omega arith in kept_map words fs ls fs' ls' row one.others q ne (inv.sound q lt)
+          ∙ inv.left q (omega arith) lt);
       free = (let f = one.free in let g = inv.free in omega arith);
       same_room = one.same_room ∙ inv.same_room;
     }

@@ -9,6 +9,7 @@ use Rattle.mx_segments.proofs.rows.need_after.Given as goal
 
 abbrev pub invariant-loop-row : goal.invariant-loop-row
 invariant-loop-row l = record {
-  needed : l.needed ≡ sum_below l.row (λ q. segment_frames (changed_map l.change.first l.change.count (given l.change (q + 1)) (map_in l.words l.leaf l.chains.lists q)));
+  needed : l.needed ≡ sum_below l.row (λ q. segment_frames (changed_map l.change.first l.change.count (given l.change (q + 1))
+      (map_in l.words l.leaf l.chains.lists q)));
   most : l.needed ≤ l.row * longest_list;
 }

@@ -25,11 +25,26 @@ returns c =
     let same_count : s.count ≡ (span_at row n).count = ap (λ (x : Span). x.count) is in
     let some : 0 < s.count = omega (arith, same_count, c.requires.row.some n c.requires.place) in
     let inside : s.first + s.count ≤ words = omega (arith, same_first, same_count, c.requires.row.inside n c.requires.place) in
-    let behind : c.args.tally.now.end ≤ s.first = omega (arith, same_first, c.requires.end, ends_before words row c.requires.row n c.requires.place) in
-    let plan : Plan = record { before = c.count_before.result; behind = c.args.tally.now.runs; all = c.args.tally.now.runs; starts = c.is_begun.result; ends = c.is_ended.result; next = P.None } in
+    let behind : c.args.tally.now.end ≤ s.first = omega (
+      arith,
+      same_first,
+      c.requires.end,
+      ends_before words row c.requires.row n
+          c.requires.place,
+    ) in
+    let plan : Plan = record {
+      before = c.count_before.result;
+      behind = c.args.tally.now.runs;
+      all = c.args.tally.now.runs;
+      starts =
+          c.is_begun.result;
+      ends = c.is_ended.result;
+      next = P.None;
+    } in
     let tally : Tally = record { end = s.first + s.count; before = c.second.result; runs = c.kept_count.result; last = s.perm } in
     let more : IsTally words (laid (grant_of s.first s.count s.perm) m) tally =
-    tally_more words m (length-first words row c.requires.row n) c.args.tally.now c.requires.tally s.first s.count s.perm some inside behind plan
+    tally_more words m (length-first words row c.requires.row n) c.args.tally.now c.requires.tally s.first s.count s.perm some inside behind
+    plan
     c.count_before.ensures refl refl c.is_begun.ensures c.is_ended.ensures refl tally refl c.second.ensures c.kept_count.ensures refl in
     let maps : laid (grant_of s.first s.count s.perm) m ≡ first_spans words row (n + 1) =
     ap (λ (x : Span). laid (granted x) m) is ∙ sym (first_more words row c.requires.row n c.requires.place) in

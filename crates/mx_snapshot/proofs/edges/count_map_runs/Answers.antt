@@ -20,7 +20,8 @@ runs-preserved c =
     let told = c.perm_end-word.ensures in
     let behind = told.behind in
     let within = told.within in
-    let step = map_count m f.core.size c.runs.word c.perm_end-word.result (c.any_machine_is_valid.ensures.whole c.args.domain c.requires) told.behind told.within told.same told.ends in
+    let step = map_count m f.core.size c.runs.word c.perm_end-word.result (c.any_machine_is_valid.ensures.whole c.args.domain c.requires)
+    told.behind told.within told.same told.ends in
     let rest = c.runs.invariant.rest in
     let few = c.runs.invariant.few in
     record { within = within; few = omega (arith, few, behind); rest = omega (arith, step, rest) }

@@ -18,7 +18,8 @@ runs-preserved c =
     let behind = told.behind in
     let within = told.within in
     let whole = c.any_machine_is_valid.ensures.owners in
-    let step = owner_count os c.runs.word c.owner_end-word.result told.behind (omega (arith, within, whole)) told.same (λ lt. told.ends (omega (arith, whole))) in
+    let step = owner_count os c.runs.word c.owner_end-word.result told.behind (omega (arith, within, whole)) told.same (λ lt.
+    told.ends (omega (arith, whole))) in
     let rest = c.runs.invariant.rest in
     let few = c.runs.invariant.few in
     record { within = within; few = omega (arith, few, behind); rest = omega (arith, step, rest) }

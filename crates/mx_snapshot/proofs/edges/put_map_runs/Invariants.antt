@@ -15,7 +15,8 @@ invariant-runs g l =
     let f = meaning l.machine in
     record {
       within : l.word ≤ f.core.size;
-      coming : Coming l.initial.tail (g.R.Sink.state l.initial.sink) (flat_map map_run_bytes (perm_runs_of f l.domain)) l.tail (g.R.Sink.state l.sink)
+      coming : Coming l.initial.tail (g.R.Sink.state l.initial.sink) (flat_map map_run_bytes (perm_runs_of f l.domain)) l.tail
+          (g.R.Sink.state l.sink)
           (run_texts (by_edges map_run_bytes) l.word (runs_of same (drop l.word (map_in f.core.size f.maps l.domain))));
     }
 

@@ -12,7 +12,11 @@ use Rattle.mx_snapshot.proofs.edges.put_owner_runs.Goals as goal
 
 pub runs-init : goal.runs-init
 runs-init g c =
-    record { within = omega arith; coming = coming_same (by_edges_all owner_run_bytes 0 (owner_runs_of (meaning c.args.machine.now))) (coming_all _ _ _) }
+    record {
+      within = omega arith;
+      coming = coming_same (by_edges_all owner_run_bytes 0 (owner_runs_of (meaning c.args.machine.now)))
+          (coming_all _ _ _);
+    }
 
 pub returns-in_err-put_owner_run : goal.returns-in_err-put_owner_run
 returns-in_err-put_owner_run g c =
@@ -24,7 +28,8 @@ returns-in_err-put_owner_run g c =
     let p = err_from_is_err_and c.from_residual.result c.from_residual.ensures.1 in
     rw (p.1, p.2)
     (coming_stop (run_texts text end (runs_of (λ a b. a == b) (drop end os)))
-    (coming_same (owners_from text os c.runs.word end run.behind (omega (arith, run.within, whole)) run.same (λ lt. run.ends (omega (arith, whole)))) c.runs.invariant.coming)
+    (coming_same (owners_from text os c.runs.word end run.behind (omega (arith, run.within, whole)) run.same (λ lt.
+    run.ends (omega (arith, whole)))) c.runs.invariant.coming)
     (passes_same (ap (text c.runs.word end) c.owner.ensures) c.in_err-put_owner_run.ensures))
 
 pub runs-preserved : goal.runs-preserved
@@ -37,11 +42,13 @@ runs-preserved g c =
     record {
       within = run.within;
       coming = coming_next
-          (coming_same (owners_from text os c.runs.word end run.behind (omega (arith, run.within, whole)) run.same (λ lt. run.ends (omega (arith, whole)))) c.runs.invariant.coming)
+          (coming_same (owners_from text os c.runs.word end run.behind (omega (arith, run.within, whole)) run.same (λ lt.
+          run.ends (omega (arith, whole)))) c.runs.invariant.coming)
           (passes_same (ap (text c.runs.word end) c.owner.ensures) c.in_ok-put_owner_run.ensures);
     }
 
 pub returns : goal.returns
 returns g c =
     let os = (meaning c.args.machine.now).owners in
-    coming_none (coming_same (owners_behind (by_edges owner_run_bytes) os c.runs.word (omega (arith, c.runs-test.false, c.words.ensures, c.any_machine_is_valid.ensures.owners))) c.runs.invariant.coming)
+    coming_none (coming_same (owners_behind (by_edges owner_run_bytes) os c.runs.word
+    (omega (arith, c.runs-test.false, c.words.ensures, c.any_machine_is_valid.ensures.owners))) c.runs.invariant.coming)

@@ -13,7 +13,8 @@ invariant-runs g l =
     let f = meaning l.machine in
     record {
       within : l.word ≤ f.core.size;
-      coming : Coming l.initial.tail (g.R.Sink.state l.initial.sink) (flat_map owner_run_bytes (owner_runs_of f)) l.tail (g.R.Sink.state l.sink)
+      coming : Coming l.initial.tail (g.R.Sink.state l.initial.sink) (flat_map owner_run_bytes (owner_runs_of f)) l.tail
+          (g.R.Sink.state l.sink)
           (run_texts (by_edges owner_run_bytes) l.word (runs_of (λ a b. a == b) (drop l.word f.owners)));
     }
 

@@ -16,4 +16,5 @@ returns-in_err-put_numbers g c =
 
 pub returns : goal.returns
 unfolding counted
-returns g c = passes_next (passes_same (ap one c.count_owner_runs.ensures) c.in_ok-put_numbers.ensures) (passes_last c.put_owner_runs.ensures)
+returns g c = passes_next (passes_same (ap one c.count_owner_runs.ensures) c.in_ok-put_numbers.ensures)
+    (passes_last c.put_owner_runs.ensures)

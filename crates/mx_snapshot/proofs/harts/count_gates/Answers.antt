@@ -12,16 +12,19 @@ overflow_add-count c =
 
 pub gates-smaller : goal.gates-smaller
 gates-smaller c =
-    let within = is_within c.gate.result (meaning c.args.machine.now).core.gates c.gates.count c.gate.ensures (sym c.is_some.ensures ∙ c.gates-test.true) in
+    let within = is_within c.gate.result (meaning c.args.machine.now).core.gates c.gates.count c.gate.ensures (sym c.is_some.ensures
+    ∙ c.gates-test.true) in
     omega (arith, within)
 
 pub gates-preserved : goal.gates-preserved
 gates-preserved c =
-    let within = is_within c.gate.result (meaning c.args.machine.now).core.gates c.gates.count c.gate.ensures (sym c.is_some.ensures ∙ c.gates-test.true) in
+    let within = is_within c.gate.result (meaning c.args.machine.now).core.gates c.gates.count c.gate.ensures (sym c.is_some.ensures
+    ∙ c.gates-test.true) in
     omega (arith, within)
 
 pub returns : goal.returns
 returns c =
-    let behind = is_behind c.gate.result (meaning c.args.machine.now).core.gates c.gates.count c.gate.ensures (sym c.is_some.ensures ∙ c.gates-test.false) in
+    let behind = is_behind c.gate.result (meaning c.args.machine.now).core.gates c.gates.count c.gate.ensures (sym c.is_some.ensures
+    ∙ c.gates-test.false) in
     let within = c.gates.invariant in
     omega (arith, behind, within)

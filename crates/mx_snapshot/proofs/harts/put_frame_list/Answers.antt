@@ -17,8 +17,10 @@ returns-in_err-put_frame g c =
     let at = sym c.in-Some.ensures in
     let p = err_from_is_err_and c.from_residual.result c.from_residual.ensures.1 in
     rw (p.1, p.2)
-    (coming_item_stop frame_bytes xs c.frames.i (record { back = 0; caller = 0; kept = [] }) (slice_get_within xs c.frames.i _ at) c.frames.invariant.coming
-    (passes_same (ap frame_bytes (sym (get_or_from_slice_get xs c.frames.i _ (record { back = 0; caller = 0; kept = [] }) at))) c.in_err-put_frame.ensures))
+    (coming_item_stop frame_bytes xs c.frames.i (record { back = 0; caller = 0; kept = [] }) (slice_get_within xs c.frames.i _ at)
+    c.frames.invariant.coming
+    (passes_same (ap frame_bytes (sym (get_or_from_slice_get xs c.frames.i _ (record { back = 0; caller = 0; kept = [] }) at)))
+    c.in_err-put_frame.ensures))
 
 pub overflow_add-i : goal.overflow_add-i
 overflow_add-i g c =
@@ -41,7 +43,8 @@ frames-preserved g c =
     record {
       within = omega arith;
       coming = coming_item frame_bytes xs c.frames.i (record { back = 0; caller = 0; kept = [] }) within c.frames.invariant.coming
-          (passes_same (ap frame_bytes (sym (get_or_from_slice_get xs c.frames.i _ (record { back = 0; caller = 0; kept = [] }) at))) c.in_ok-put_frame.ensures);
+          (passes_same (ap frame_bytes (sym (get_or_from_slice_get xs c.frames.i _ (record { back = 0; caller = 0; kept = [] }) at)))
+          c.in_ok-put_frame.ensures);
     }
 
 pub returns : goal.returns

@@ -10,7 +10,8 @@ invariant-frames g l =
     let xs = (hart_at (meaning l.machine).core l.hart).frames in
     record {
       within : l.i ≤ length xs;
-      coming : Coming l.initial.tail (g.R.Sink.state l.initial.sink) (flat_map frame_bytes xs) l.tail (g.R.Sink.state l.sink) (flat_map frame_bytes (drop l.i xs));
+      coming : Coming l.initial.tail (g.R.Sink.state l.initial.sink) (flat_map frame_bytes xs) l.tail (g.R.Sink.state l.sink)
+          (flat_map frame_bytes (drop l.i xs));
     }
 
 abbrev pub decreases-frames : goal.decreases-frames

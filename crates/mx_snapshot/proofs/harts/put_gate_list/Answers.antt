@@ -16,8 +16,10 @@ returns-in_err-put_gate g c =
     let at = sym c.in-Some.ensures in
     let p = err_from_is_err_and c.from_residual.result c.from_residual.ensures.1 in
     rw (p.1, p.2)
-    (coming_item_stop gate_bytes xs c.gates.i (record { domain = 0; word = 0; target = 0 }) (slice_get_within xs c.gates.i _ at) c.gates.invariant.coming
-    (passes_same (ap gate_bytes (sym (get_or_from_slice_get xs c.gates.i _ (record { domain = 0; word = 0; target = 0 }) at))) c.in_err-put_gate.ensures))
+    (coming_item_stop gate_bytes xs c.gates.i (record { domain = 0; word = 0; target = 0 }) (slice_get_within xs c.gates.i _ at)
+    c.gates.invariant.coming
+    (passes_same (ap gate_bytes (sym (get_or_from_slice_get xs c.gates.i _ (record { domain = 0; word = 0; target = 0 }) at)))
+    c.in_err-put_gate.ensures))
 
 pub overflow_add-i : goal.overflow_add-i
 overflow_add-i g c =
@@ -40,7 +42,8 @@ gates-preserved g c =
     record {
       within = omega arith;
       coming = coming_item gate_bytes xs c.gates.i (record { domain = 0; word = 0; target = 0 }) within c.gates.invariant.coming
-          (passes_same (ap gate_bytes (sym (get_or_from_slice_get xs c.gates.i _ (record { domain = 0; word = 0; target = 0 }) at))) c.in_ok-put_gate.ensures);
+          (passes_same (ap gate_bytes (sym (get_or_from_slice_get xs c.gates.i _ (record { domain = 0; word = 0; target = 0 }) at)))
+          c.in_ok-put_gate.ensures);
     }
 
 pub returns : goal.returns

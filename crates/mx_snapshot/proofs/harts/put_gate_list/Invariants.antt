@@ -9,7 +9,8 @@ invariant-gates g l =
     let xs = (meaning l.machine).core.gates in
     record {
       within : l.i ≤ length xs;
-      coming : Coming l.initial.tail (g.R.Sink.state l.initial.sink) (flat_map gate_bytes xs) l.tail (g.R.Sink.state l.sink) (flat_map gate_bytes (drop l.i xs));
+      coming : Coming l.initial.tail (g.R.Sink.state l.initial.sink) (flat_map gate_bytes xs) l.tail (g.R.Sink.state l.sink)
+          (flat_map gate_bytes (drop l.i xs));
     }
 
 abbrev pub decreases-gates : goal.decreases-gates

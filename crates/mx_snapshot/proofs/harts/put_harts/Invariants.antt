@@ -10,4 +10,5 @@ abbrev pub invariant-loop-hart : goal.invariant-loop-hart
 invariant-loop-hart g l =
     let harts = (meaning l.machine).core.harts in
     let text = λ (h : Hart). hart_bytes (stored_hart h) in
-    Coming l.initial.tail (g.R.Sink.state l.initial.sink) (flat_map text harts) l.tail (g.R.Sink.state l.sink) (flat_map text (drop l.hart harts))
+    Coming l.initial.tail (g.R.Sink.state l.initial.sink) (flat_map text harts) l.tail (g.R.Sink.state l.sink)
+    (flat_map text (drop l.hart harts))

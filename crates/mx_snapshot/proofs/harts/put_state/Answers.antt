@@ -8,8 +8,10 @@ pub returns-in_err-put_numbers : goal.returns-in_err-put_numbers
 unfolding state_bytes
 returns-in_err-put_numbers g c =
     let p = err_from_is_err_and c.from_residual.result c.from_residual.ensures.1 in
-    rw (p.1, p.2) (passes_stop _ _ (passes_same (ap (λ (n : ℕ). numbers (n ∷ c.args.view.now.domain ∷ c.args.view.now.pc ∷ [])) c.status_number.ensures) c.in_err-put_numbers.ensures))
+    rw (p.1, p.2) (passes_stop _ _ (passes_same (ap (λ (n : ℕ). numbers (n ∷ c.args.view.now.domain ∷ c.args.view.now.pc ∷ []))
+    c.status_number.ensures) c.in_err-put_numbers.ensures))
 
 pub returns : goal.returns
 unfolding state_bytes
-returns g c = passes_next (passes_same (ap (λ (n : ℕ). numbers (n ∷ c.args.view.now.domain ∷ c.args.view.now.pc ∷ [])) c.status_number.ensures) c.in_ok-put_numbers.ensures) (passes_last c.put_numbers-2.ensures)
+returns g c = passes_next (passes_same (ap (λ (n : ℕ). numbers (n ∷ c.args.view.now.domain ∷ c.args.view.now.pc ∷ []))
+    c.status_number.ensures) c.in_ok-put_numbers.ensures) (passes_last c.put_numbers-2.ensures)

@@ -19,13 +19,15 @@ returns-in_err-put_block g c =
     let p = err_from_is_err_and c.from_residual.result c.from_residual.ensures.1 in
     rw (p.1, p.2)
     (coming_item_stop block_bytes xs c.live.i (record { first = 0; count = 0 }) (slice_get_within xs c.live.i _ at) c.live.invariant.coming
-    (passes_same (ap block_bytes (sym (get_or_from_slice_get xs c.live.i _ (record { first = 0; count = 0 }) at))) c.in_err-put_block.ensures))
+    (passes_same (ap block_bytes (sym (get_or_from_slice_get xs c.live.i _ (record { first = 0; count = 0 }) at)))
+    c.in_err-put_block.ensures))
 
 pub overflow_add-i : goal.overflow_add-i
 overflow_add-i g c =
     let xs = (module_at (meaning c.args.machine.now).core c.args.domain).blocks in
     let within = slice_get_within xs c.live.i _ (sym c.in-Some.ensures) in
-    let few : length xs ≤ 1024 = (home-at (meaning c.args.machine.now).core c.args.domain c.any_machine_is_valid.ensures.valid).few_blocks in
+    let few : length xs ≤ 1024 = (home-at (meaning c.args.machine.now).core c.args.domain c.any_machine_is_valid.ensures.valid).few_blocks
+    in
     omega (arith, within, few)
 
 pub live-smaller : goal.live-smaller
@@ -42,7 +44,8 @@ live-preserved g c =
     record {
       within = omega arith;
       coming = coming_item block_bytes xs c.live.i (record { first = 0; count = 0 }) within c.live.invariant.coming
-          (passes_same (ap block_bytes (sym (get_or_from_slice_get xs c.live.i _ (record { first = 0; count = 0 }) at))) c.in_ok-put_block.ensures);
+          (passes_same (ap block_bytes (sym (get_or_from_slice_get xs c.live.i _ (record { first = 0; count = 0 }) at)))
+          c.in_ok-put_block.ensures);
     }
 
 pub returns : goal.returns

@@ -10,7 +10,8 @@ invariant-live g l =
     let xs = (module_at (meaning l.machine).core l.domain).blocks in
     record {
       within : l.i ≤ length xs;
-      coming : Coming l.initial.tail (g.R.Sink.state l.initial.sink) (flat_map block_bytes xs) l.tail (g.R.Sink.state l.sink) (flat_map block_bytes (drop l.i xs));
+      coming : Coming l.initial.tail (g.R.Sink.state l.initial.sink) (flat_map block_bytes xs) l.tail (g.R.Sink.state l.sink)
+          (flat_map block_bytes (drop l.i xs));
     }
 
 abbrev pub decreases-live : goal.decreases-live

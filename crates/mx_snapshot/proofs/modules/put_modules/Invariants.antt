@@ -10,5 +10,6 @@ abbrev pub invariant-loop-i : goal.invariant-loop-i
 invariant-loop-i g l =
     let f = meaning l.machine in
     let text : ℕ → List ℕ = λ d. module_bytes (named_module l.plan.names f d) in
-    Coming l.initial.tail (g.R.Sink.state l.initial.sink) (flat_map text (range_with_len 1 (length f.core.modules))) l.tail (g.R.Sink.state l.sink)
+    Coming l.initial.tail (g.R.Sink.state l.initial.sink) (flat_map text (range_with_len 1 (length f.core.modules))) l.tail
+    (g.R.Sink.state l.sink)
     (flat_map text (range_with_len (l.i + 1) (length f.core.modules - l.i)))

@@ -17,20 +17,29 @@ pub returns-in_err-put_modules : goal.returns-in_err-put_modules
 unfolding front_bytes
 returns-in_err-put_modules g c =
     let p = err_from_is_err_and c.from_residual-in_err-put_modules.result c.from_residual-in_err-put_modules.ensures.1 in
-    rw (p.1, p.2) (passes_next c.in_ok-put_head.ensures (passes_stop _ _ (passes_same (sym (flat_map-map module_bytes (named_module c.args.plan.now.names (meaning c.args.machine.now)) _)) c.in_err-put_modules.ensures)))
+    rw (p.1, p.2) (passes_next c.in_ok-put_head.ensures (passes_stop _ _
+    (passes_same (sym (flat_map-map module_bytes (named_module c.args.plan.now.names (meaning c.args.machine.now)) _))
+    c.in_err-put_modules.ensures)))
 
 pub returns-in_err-put_owners : goal.returns-in_err-put_owners
 unfolding front_bytes
 returns-in_err-put_owners g c =
     let p = err_from_is_err_and c.from_residual-in_err-put_owners.result c.from_residual-in_err-put_owners.ensures.1 in
-    rw (p.1, p.2) (passes_next c.in_ok-put_head.ensures (passes_next (passes_same (sym (flat_map-map module_bytes (named_module c.args.plan.now.names (meaning c.args.machine.now)) _)) c.in_ok-put_modules.ensures) (passes_stop _ _ c.in_err-put_owners.ensures)))
+    rw (p.1, p.2) (passes_next c.in_ok-put_head.ensures (passes_next
+    (passes_same (sym (flat_map-map module_bytes (named_module c.args.plan.now.names (meaning c.args.machine.now)) _))
+    c.in_ok-put_modules.ensures) (passes_stop _ _ c.in_err-put_owners.ensures)))
 
 pub returns-in_err-put_gates : goal.returns-in_err-put_gates
 unfolding front_bytes
 returns-in_err-put_gates g c =
     let p = err_from_is_err_and c.from_residual-in_err-put_gates.result c.from_residual-in_err-put_gates.ensures.1 in
-    rw (p.1, p.2) (passes_next c.in_ok-put_head.ensures (passes_next (passes_same (sym (flat_map-map module_bytes (named_module c.args.plan.now.names (meaning c.args.machine.now)) _)) c.in_ok-put_modules.ensures) (passes_next c.in_ok-put_owners.ensures (passes_stop _ _ c.in_err-put_gates.ensures))))
+    rw (p.1, p.2) (passes_next c.in_ok-put_head.ensures (passes_next
+    (passes_same (sym (flat_map-map module_bytes (named_module c.args.plan.now.names (meaning c.args.machine.now)) _))
+    c.in_ok-put_modules.ensures) (passes_next c.in_ok-put_owners.ensures (passes_stop _ _ c.in_err-put_gates.ensures))))
 
 pub returns : goal.returns
 unfolding front_bytes
-returns g c = passes_next c.in_ok-put_head.ensures (passes_next (passes_same (sym (flat_map-map module_bytes (named_module c.args.plan.now.names (meaning c.args.machine.now)) _)) c.in_ok-put_modules.ensures) (passes_next c.in_ok-put_owners.ensures (passes_next c.in_ok-put_gates.ensures (passes_last (passes_same (sym (flat_map-map hart_bytes stored_hart _)) c.put_harts.ensures)))))
+returns g c = passes_next c.in_ok-put_head.ensures (passes_next
+    (passes_same (sym (flat_map-map module_bytes (named_module c.args.plan.now.names (meaning c.args.machine.now)) _))
+    c.in_ok-put_modules.ensures) (passes_next c.in_ok-put_owners.ensures
+    (passes_next c.in_ok-put_gates.ensures (passes_last (passes_same (sym (flat_map-map hart_bytes stored_hart _)) c.put_harts.ensures)))))

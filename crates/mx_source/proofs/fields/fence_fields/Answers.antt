@@ -6,7 +6,8 @@ use Rattle.mx_source.specs.FieldViews.{fields_view}
 use Rattle.mx_source.proofs.fields.fence_fields.Goals as goal
 
 -- more than one operand says nothing
-no_fence : (operands : List (List ℕ)) (first : List ℕ) (more : List (List ℕ)) → operands ≡ first ∷ more → single_of operands ≡ None → fence_fields operands ≡ None
+no_fence : (operands : List (List ℕ)) (first : List ℕ) (more : List (List ℕ)) → operands ≡ first ∷ more → single_of operands ≡ None
+    → fence_fields operands ≡ None
 unfolding fence_fields
 no_fence operands first more e none = rw e (rw (rw e at none) refl)
 

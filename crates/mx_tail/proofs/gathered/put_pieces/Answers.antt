@@ -13,7 +13,10 @@ returns-in_err-put_piece-clause-passes g c =
 
 pub loop-piece-preserved : goal.loop-piece-preserved
 loop-piece-preserved g c =
-    record { coming = coming_item piece_text _ _ _ c.loop-piece-test.true c.loop-piece.invariant.coming c.in_ok-put_piece.ensures.passes; few = c.in_ok-put_piece.ensures.few }
+    record {
+      coming = coming_item piece_text _ _ _ c.loop-piece-test.true c.loop-piece.invariant.coming c.in_ok-put_piece.ensures.passes;
+      few = c.in_ok-put_piece.ensures.few;
+    }
 
 pub returns-clause-passes : goal.returns-clause-passes
 returns-clause-passes g c = coming_items piece_text _ _ c.loop-piece-test.false c.loop-piece.invariant.coming

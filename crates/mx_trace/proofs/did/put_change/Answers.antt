@@ -8,4 +8,5 @@ pub returns-then-before-after-clause-text : goal.returns-then-before-after-claus
 returns-then-before-after-clause-text g c =
     let value = c.put_text.ensures ∙ ap (λ xs. codes "=" ++ xs) c.put_hex.ensures.text in
     let register = part_put (decimal c.args.i) (codes "=" ++ hex_number c.args.after) c.args.line.now value c.put_number.ensures.text in
-    rw (ne_eqb c.args.before c.args.after c.if-before-after.true) (c.put_text-then-before-after.ensures ∙ ap (λ xs. codes " x" ++ xs) register)
+    rw (ne_eqb c.args.before c.args.after c.if-before-after.true) (c.put_text-then-before-after.ensures
+    ∙ ap (λ xs. codes " x" ++ xs) register)

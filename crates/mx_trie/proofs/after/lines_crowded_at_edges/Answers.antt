@@ -10,7 +10,8 @@ returns-then-first-last-clause-count g c = search (arith, edges-one, c.if-first-
 
 pub returns-clause-count : goal.returns-clause-count
 returns-clause-count g c =
-    edges-two (c.args.lay.now.first / 16) ((c.args.lay.now.end - 1) / 16) _ _ (λ z. needs_spill g.L.LeafForm.kind (line_at (g.V.View.map c.args.new.now) (z * 16))) _ _
+    edges-two (c.args.lay.now.first / 16) ((c.args.lay.now.end - 1) / 16) _ _ (λ z.
+    needs_spill g.L.LeafForm.kind (line_at (g.V.View.map c.args.new.now) (z * 16))) _ _
     (omega arith)
     (λ i above below. inner-needs (g.V.View.map c.args.new.now) c.args.lay.now c.requires.laid i g.L.LeafForm.kind above below)
     c.from-at_first.ensures c.is_line_crowded.ensures c.from.ensures c.is_line_crowded-2.ensures

@@ -11,7 +11,9 @@ returns-then-first-last-clause-count g c =
 
 pub returns-clause-count : goal.returns-clause-count
 returns-clause-count g c =
-    edges-two (c.args.lay.now.first / page_words) ((c.args.lay.now.end - 1) / page_words) _ _ (is_broken page_words (g.V.View.map c.args.new.now)) _ _
+    edges-two (c.args.lay.now.first / page_words) ((c.args.lay.now.end - 1) / page_words) _ _
+    (is_broken page_words (g.V.View.map c.args.new.now)) _ _
     (let apart = c.if-first-last.false in omega arith)
-    (λ i above below. inner-whole (g.V.View.map c.args.new.now) c.args.lay.now c.requires.laid i page_words 128 refl refl (omega arith) above below)
+    (λ i above below. inner-whole (g.V.View.map c.args.new.now) c.args.lay.now c.requires.laid i page_words 128 refl refl (omega arith)
+    above below)
     c.from-at_first.ensures c.is_page_broken.ensures c.from.ensures c.is_page_broken-2.ensures

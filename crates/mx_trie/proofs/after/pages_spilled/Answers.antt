@@ -18,7 +18,8 @@ loop-page-preserved g c =
           (let test = λ (z : ℕ). needs_spill g.L.LeafForm.kind (line_at m (z * 16)) in
           let before = c.loop-page.invariant.counted spill m shown in
           let here = c.page_spilled-count.ensures.count spill m shown in
-          let step = count-within (c.args.lay.now.first / 16) ((c.args.lay.now.end - 1) / 16 + 1) c.loop-page.page test (omega arith) (omega arith) (omega arith) in
+          let step = count-within (c.args.lay.now.first / 16) ((c.args.lay.now.end - 1) / 16 + 1) c.loop-page.page test (omega arith)
+          (omega arith) (omega arith) in
           omega (arith, before, here, step));
       few = omega (arith, c.loop-page.invariant.few, c.page_spilled-count.ensures.most);
     }
@@ -27,4 +28,5 @@ pub returns-clause-count : goal.returns-clause-count
 returns-clause-count g c spill m shown =
     let all : min ((c.args.lay.now.end - 1) / 16 + 1) (c.loop-page.page * 64) ≡ (c.args.lay.now.end - 1) / 16 + 1 =
     omega arith in
-    c.loop-page.invariant.counted spill m shown ∙ ap (λ n. count_from (c.args.lay.now.first / 16) n (λ z. needs_spill g.L.LeafForm.kind (line_at m (z * 16)))) all
+    c.loop-page.invariant.counted spill m shown ∙ ap (λ n. count_from (c.args.lay.now.first / 16) n (λ z.
+    needs_spill g.L.LeafForm.kind (line_at m (z * 16)))) all

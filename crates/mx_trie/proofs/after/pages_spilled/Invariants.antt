@@ -11,6 +11,7 @@ use Rattle.mx_trie.proofs.after.pages_spilled.Given as goal
 abbrev pub invariant-loop-page : goal.invariant-loop-page
 invariant-loop-page g l = record {
   counted : (spill : Frames) (m : List Perm) → IsDomain g.L.LeafForm.kind l.upper l.leaf spill m l.root →
-      l.count ≡ count_from (l.lay.first / 16) (min ((l.lay.end - 1) / 16 + 1) (l.page * 64)) (λ z. needs_spill g.L.LeafForm.kind (line_at m (z * 16)));
+      l.count ≡ count_from (l.lay.first / 16) (min ((l.lay.end - 1) / 16 + 1) (l.page * 64)) (λ z.
+      needs_spill g.L.LeafForm.kind (line_at m (z * 16)));
   few : l.count ≤ l.page * 64;
 }

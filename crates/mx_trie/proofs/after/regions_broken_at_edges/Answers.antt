@@ -7,11 +7,14 @@ use Rattle.mx_trie.proofs.after.regions_broken_at_edges.Goals as goal
 
 pub returns-then-first-last-clause-count : goal.returns-then-first-last-clause-count
 returns-then-first-last-clause-count g c =
-    edges-one _ _ _ (is_broken region_words (g.V.View.map c.args.new.now)) _ c.if-first-last.true c.from-at_first.ensures c.is_region_broken.ensures
+    edges-one _ _ _ (is_broken region_words (g.V.View.map c.args.new.now)) _ c.if-first-last.true c.from-at_first.ensures
+    c.is_region_broken.ensures
 
 pub returns-clause-count : goal.returns-clause-count
 returns-clause-count g c =
-    edges-two (c.args.lay.now.first / region_words) ((c.args.lay.now.end - 1) / region_words) _ _ (is_broken region_words (g.V.View.map c.args.new.now)) _ _
+    edges-two (c.args.lay.now.first / region_words) ((c.args.lay.now.end - 1) / region_words) _ _
+    (is_broken region_words (g.V.View.map c.args.new.now)) _ _
     (omega arith)
-    (λ i above below. inner-whole (g.V.View.map c.args.new.now) c.args.lay.now c.requires.laid i region_words 131072 refl refl (omega arith) above below)
+    (λ i above below. inner-whole (g.V.View.map c.args.new.now) c.args.lay.now c.requires.laid i region_words 131072 refl refl (omega arith)
+    above below)
     c.from-at_first.ensures c.is_region_broken.ensures c.from.ensures c.is_region_broken-2.ensures

@@ -7,7 +7,8 @@ use Rattle.mx_trie.proofs.beside.before.Goals.{then-loop-begin-test+else-at-begi
 
 pub returns-then-ne : goal.returns-then-ne
 returns-then-ne g c =
-    back-ended _ _ _ _ _ c.loop-begin.invariant.before c.requires.inside c.loop-begin.invariant.alike _ (omega arith) (omega arith) c.around-span.ensures
+    back-ended _ _ _ _ _ c.loop-begin.invariant.before c.requires.inside c.loop-begin.invariant.alike _ (omega arith) (omega arith)
+    c.around-span.ensures
     (differs_true the_type _ _ (sym c.if-ne.ensures))
 
 pub returns : goal.returns

@@ -18,6 +18,8 @@ pub returns-else-is_page_even : goal.returns-else-is_page_even
 returns-else-is_page_even g c =
     let f : ℕ = c.build_lines.result in
     let at : target (4 * f) ≡ f = omega arith in
-    page-built g.L.LeafForm.kind g.met.L.LeafForm.trie (g.V.View.map c.args.view.now) c.args.page c.args.leaf.now c.args.spill.now c.build_lines.new.leaf c.build_lines.new.spill (4 * f)
+    page-built g.L.LeafForm.kind g.met.L.LeafForm.trie (g.V.View.map c.args.view.now) c.args.page c.args.leaf.now c.args.spill.now
+    c.build_lines.new.leaf c.build_lines.new.spill (4 * f)
     (pointer-open f) (sym (not-not _) ∙ ap not (sym c.is_page_even.ensures ∙ c.if-is_page_even.false))
-    (subst (λ n. AreLinesBuilt g.L.LeafForm.kind c.args.leaf.now c.args.spill.now c.build_lines.new.leaf c.build_lines.new.spill (g.V.View.map c.args.view.now) c.args.page n 64) (sym at) c.build_lines.ensures.built)
+    (subst (λ n. AreLinesBuilt g.L.LeafForm.kind c.args.leaf.now c.args.spill.now c.build_lines.new.leaf c.build_lines.new.spill
+    (g.V.View.map c.args.view.now) c.args.page n 64) (sym at) c.build_lines.ensures.built)

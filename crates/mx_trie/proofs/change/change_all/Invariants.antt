@@ -10,7 +10,8 @@ invariant-loop-row g l =
     record {
       tables : IsTables g.L.LeafForm.kind l.words l.upper l.leaf l.spill l.roots;
       maps : (d : ℕ) → d < length l.roots →
-          map_at g.L.LeafForm.kind l.words l.upper l.leaf l.spill l.roots d ≡ maps_until l.row l.change (map_at g.L.LeafForm.kind l.words l.initial.upper l.initial.leaf l.initial.spill l.roots) d;
+          map_at g.L.LeafForm.kind l.words l.upper l.leaf l.spill l.roots d
+          ≡ maps_until l.row l.change (map_at g.L.LeafForm.kind l.words l.initial.upper l.initial.leaf l.initial.spill l.roots) d;
       upper_free : free_in l.initial.upper ≤ free_in l.upper + 2 * l.row;
       leaf_free : free_in l.initial.leaf ≤ free_in l.leaf + 2 * l.row;
       spill_free : free_in l.initial.spill ≤ free_in l.spill + 2 * l.row;

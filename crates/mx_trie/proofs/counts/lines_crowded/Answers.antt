@@ -11,4 +11,16 @@ loop-line-init g c =
 
 pub loop-line-preserved : goal.loop-line-preserved
 loop-line-preserved g c =
-    search (arith, byte-bit, sum-next, c.loop-line.line, c.loop-line.count, c.from-count.result, g.L.LeafForm.kind, g.V.View.map, c.args.page, c.loop-line.invariant.0, bit-le)
+    search (
+      arith,
+      byte-bit,
+      sum-next,
+      c.loop-line.line,
+      c.loop-line.count,
+      c.from-count.result,
+      g.L.LeafForm.kind,
+      g.V.View.map,
+      c.args.page,
+      c.loop-line.invariant.0,
+      bit-le,
+    )

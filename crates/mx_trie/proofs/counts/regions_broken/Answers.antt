@@ -14,4 +14,15 @@ loop-region-init g c =
 
 pub loop-region-preserved : goal.loop-region-preserved
 loop-region-preserved g c =
-    search (arith, byte-bit, sum-next, c.loop-region.region, c.loop-region.count, c.from-count.result, g.V.View.map, c.loop-region.invariant.0, not-not, bit-le)
+    search (
+      arith,
+      byte-bit,
+      sum-next,
+      c.loop-region.region,
+      c.loop-region.count,
+      c.from-count.result,
+      g.V.View.map,
+      c.loop-region.invariant.0,
+      not-not,
+      bit-le,
+    )

@@ -14,7 +14,8 @@ loop-place-preserved g c = λ m few line.
       | then-span-word w ↦ subst (IsRound m word) (sym w.span-is) (w.around_line-span-then-span-word.ensures m few line)
       | else-span-word w ↦ subst (IsRound m word) (sym w.span-is) (round-along m word c.loop-place.span was.1 w.if-span-word.false)
     ] in (
-      told-more m c.args.line c.loop-place.place c.loop-place.perms c.if-span-word.span.perm c.loop-place-test.true was.0 (round-perm m word c.if-span-word.span here),
+      told-more m c.args.line c.loop-place.place c.loop-place.perms c.if-span-word.span.perm c.loop-place-test.true was.0
+          (round-perm m word c.if-span-word.span here),
       along-round m word (c.args.line * 16 + (c.loop-place.place + 1)) c.if-span-word.span here (omega arith),
     )
 

@@ -20,4 +20,5 @@ returns-in-None-clause-yes g c = λ spill m few line told k inside. absurd (cc)
 pub returns-in-None-clause-no : goal.returns-in-None-clause-no
 returns-in-None-clause-no g c = λ spill m few line told alike.
     let zero_more : c.args.line * 16 + 0 ≡ c.args.line * 16 = omega arith in
-    (c.line_perm.ensures spill m few line).mixed c.in-None.is (λ k inside. alike k inside ∙ sym (ap (perm_at m) (sym zero_more) ∙ alike 0 (omega arith)))
+    (c.line_perm.ensures spill m few line).mixed c.in-None.is (λ k inside. alike k inside
+    ∙ sym (ap (perm_at m) (sym zero_more) ∙ alike 0 (omega arith)))

@@ -11,7 +11,8 @@ returns-then-begin-lay-clause-value c kind m known most old perm =
       | then-begin-lay-via-then-begin-lay w ↦
           old ∙ left-outside kind m c.args.lay.now c.args.beside.now known c.args.line c.requires.behind (omega arith)
       | then-begin-lay-via-else-begin-lay+then-old-gap w ↦
-          left-short kind m c.args.lay.now c.args.beside.now known c.args.line c.requires.behind (omega arith) c.args.old old w.if-old-gap.true
+          left-short kind m c.args.lay.now c.args.beside.now known c.args.line c.requires.behind (omega arith) c.args.old old
+          w.if-old-gap.true
     ]
 
 pub returns-then-ne-clause-value : goal.returns-then-ne-clause-value
@@ -25,5 +26,6 @@ returns-clause-value c kind m known most old perm =
     let long = known.long in
     let inside : c.args.line * 16 < length m = (let h = c.if-begin-lay.false in omega arith) in
     let same = differs_false the_type (search rules) c.args.perm c.args.lay.now.perm (sym c.if-ne.ensures) in
-    let value = left-same kind m c.args.lay.now c.args.beside.now known c.args.line c.requires.behind inside c.args.old old c.if-old-gap.false (sym perm ∙ same) in
+    let value = left-same kind m c.args.lay.now c.args.beside.now known c.args.line c.requires.behind inside c.args.old old
+    c.if-old-gap.false (sym perm ∙ same) in
     omega (arith, value, most, c.min.ensures)

@@ -16,5 +16,6 @@ returns-then-ne-clause-value c kind m known most old perm =
 pub returns-clause-value : goal.returns-clause-value
 returns-clause-value c kind m known most old perm =
     let same = differs_false the_type (search rules) c.args.perm c.args.lay.now.perm (sym c.if-ne.ensures) in
-    let value = right-same kind m c.args.lay.now c.args.beside.now known c.args.line c.requires.before c.args.old old c.if-old-gap.false (sym perm ∙ same) in
+    let value = right-same kind m c.args.lay.now c.args.beside.now known c.args.line c.requires.before c.args.old old c.if-old-gap.false
+    (sym perm ∙ same) in
     omega (arith, value, most, c.min.ensures)

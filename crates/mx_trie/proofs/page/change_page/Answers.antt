@@ -16,7 +16,12 @@ change_lines-requires-clause-table g c = (c.open_page-frame.ensures.opened c.arg
 pub change_lines-requires-clause-stands : goal.change_lines-requires-clause-stands
 change_lines-requires-clause-stands g c =
     let some = c.requires.stands in
-    record { map = some.map; known = some.known; lines = (c.open_page-frame.ensures.opened c.args.spill.now c.requires.table).shown some.map some.known some.page }
+    record {
+      map = some.map;
+      known = some.known;
+      lines = (c.open_page-frame.ensures.opened c.args.spill.now c.requires.table).shown some.map
+          some.known some.page;
+    }
 
 pub change_lines-requires-clause-room : goal.change_lines-requires-clause-room
 change_lines-requires-clause-room g c = c.requires.spill_room
@@ -48,7 +53,8 @@ close_page-requires-clause-table g c =
 pub returns-then-covers : goal.returns-then-covers
 returns-then-covers g c =
     let covers = c.covers.ensures.yes c.if-covers.true in
-    page-covered g.L.LeafForm.kind c.args.leaf.now c.args.spill.now c.args.lay.now c.args.beside.now c.args.page c.args.entry c.free_page.new.leaf c.free_page.new.spill covers.0 covers.1
+    page-covered g.L.LeafForm.kind c.args.leaf.now c.args.spill.now c.args.lay.now c.args.beside.now c.args.page c.args.entry
+    c.free_page.new.leaf c.free_page.new.spill covers.0 covers.1
     c.flat_vector.result c.flat_vector.ensures.value c.free_page.ensures
 
 pub returns-then-meets : goal.returns-then-meets
@@ -62,7 +68,8 @@ returns-then-meets g c =
     let opened = c.open_page-frame.ensures.opened c.args.spill.now c.requires.table in
     let few = few-known g.L.LeafForm.kind some.map c.args.lay.now c.args.beside.now some.known in
     page-cut g.L.LeafForm.kind c.args.leaf.now c.args.spill.now c.args.lay.now c.args.beside.now c.args.page c.args.entry
-    c.open_page-frame.new.leaf c.change_lines.new.leaf c.change_lines.new.spill c.close_page.new.leaf c.open_page-frame.result c.close_page.result one opened c.change_lines.ensures
+    c.open_page-frame.new.leaf c.change_lines.new.leaf c.change_lines.new.spill c.close_page.new.leaf c.open_page-frame.result
+    c.close_page.result one opened c.change_lines.ensures
     (c.close_page.ensures c.change_lines.new.spill (record {
       table = c.change_lines.ensures.table;
       stands = record {

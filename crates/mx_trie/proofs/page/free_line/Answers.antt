@@ -16,7 +16,9 @@ pub returns-in-Some : goal.returns-in-Some
 returns-in-Some g c =
     let named : spill_number g.L.LeafForm.kind (word_at c.args.leaf.now c.args.frame c.args.place) ≡ Some c.in-Some.number =
     ap (spill_number g.L.LeafForm.kind) (sym c.get.ensures) ∙ sym c.spill_of.ensures.value ∙ c.in-Some.is in
-    line-given g.L.LeafForm.kind c.args.leaf.now c.args.spill.now c.set.new.self c.give.new.self c.args.frame c.args.place c.in-Some.number named
+    line-given g.L.LeafForm.kind c.args.leaf.now c.args.spill.now c.set.new.self c.give.new.self c.args.frame c.args.place c.in-Some.number
+    named
     (search arith)
-    (ap (spill_number g.L.LeafForm.kind) c.set.ensures.here ∙ flat-spill g.L.LeafForm.kind g.met.L.LeafForm.trie P.None 0 0 0 c.flat.result (c.flat.ensures 0))
+    (ap (spill_number g.L.LeafForm.kind) c.set.ensures.here ∙ flat-spill g.L.LeafForm.kind g.met.L.LeafForm.trie P.None 0 0 0 c.flat.result
+    (c.flat.ensures 0))
     c.give.ensures.elsewhere c.give.ensures.more c.give.ensures.total

@@ -13,9 +13,21 @@ returns-after-REACH-gt0 g c =
     λ l s. AreLinesFreed g.L.LeafForm.kind c.args.leaf.now c.args.spill.now l s (target c.args.entry) 64 in
     let lines : T c.if-REACH-gt0.leaf c.if-REACH-gt0.spill =
     elim c.if-REACH-gt0.branch [
-      | then-REACH-gt0 w ↦ subst (λ l. T l c.if-REACH-gt0.spill) (sym w.leaf-is) (subst (λ s. T w.free_lines.new.leaf s) (sym w.spill-is) w.free_lines.ensures)
+      | then-REACH-gt0 w ↦ subst (λ l. T l c.if-REACH-gt0.spill) (sym w.leaf-is)
+          (subst (λ s. T w.free_lines.new.leaf s) (sym w.spill-is) w.free_lines.ensures)
       | else-REACH-gt0 w ↦
           (let plain : form_reach g.L.LeafForm.kind ≡ 0 = omega (arith, g.met.L.LeafForm.reach, c.REACH.ensures, w.if-REACH-gt0.false) in
-          subst (λ l. T l c.if-REACH-gt0.spill) (sym w.leaf-is) (search (arith, c.args.leaf.now, lines-plain, g.L.LeafForm.kind, c.args.spill.now, c.requires, reach-none, g.met.L.LeafForm.trie)))
+          subst (λ l. T l c.if-REACH-gt0.spill) (sym w.leaf-is)
+          (search (
+            arith,
+            c.args.leaf.now,
+            lines-plain,
+            g.L.LeafForm.kind,
+            c.args.spill.now,
+            c.requires,
+            reach-none,
+            g.met.L.LeafForm.trie,
+          )))
     ] in
-    page-freed g.L.LeafForm.kind c.args.leaf.now c.args.spill.now c.if-REACH-gt0.leaf c.if-REACH-gt0.spill c.give.new.self c.args.entry pointer lines c.give.ensures.elsewhere c.give.ensures.more c.give.ensures.total
+    page-freed g.L.LeafForm.kind c.args.leaf.now c.args.spill.now c.if-REACH-gt0.leaf c.if-REACH-gt0.spill c.give.new.self c.args.entry
+    pointer lines c.give.ensures.elsewhere c.give.ensures.more c.give.ensures.total

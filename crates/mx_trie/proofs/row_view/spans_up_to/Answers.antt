@@ -15,7 +15,13 @@ loop-low-preserved-then-get-word c =
     record {
       order = omega (arith, c.loop-low-test.true);
       within = i.within;
-      begun = λ k lt. omega (arith, row-firsts c.requires.0 c.args.row.now c.requires.1 k middle (omega arith) (omega (arith, i.within, c.loop-low-test.true)), is, c.if-get-word.true);
+      begun = λ k lt. omega (
+        arith,
+        row-firsts c.requires.0 c.args.row.now c.requires.1 k middle (omega arith)
+            (omega (arith, i.within, c.loop-low-test.true)),
+        is,
+        c.if-get-word.true,
+      );
       later = i.later;
     }
 

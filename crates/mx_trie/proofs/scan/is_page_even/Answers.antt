@@ -4,4 +4,5 @@ use Rattle.mx_trie.proofs.scan.is_page_even.Goals as goal
 
 pub returns : goal.returns
 returns g c =
-    even-tells 1024 128 (g.V.View.map c.args.view.now) c.args.page c.is_even.result refl refl (omega arith) c.is_even.ensures.yes c.is_even.ensures.no
+    even-tells 1024 128 (g.V.View.map c.args.view.now) c.args.page c.is_even.result refl refl (omega arith) c.is_even.ensures.yes
+    c.is_even.ensures.no

@@ -22,4 +22,5 @@ loop-place-preserved g c =
 
 pub returns : goal.returns
 returns g c =
-    told-all (g.V.View.map c.args.view.now) c.args.line c.loop-place.place c.loop-place.perms c.loop-place-test.false c.loop-place.invariant.told
+    told-all (g.V.View.map c.args.view.now) c.args.line c.loop-place.place c.loop-place.perms c.loop-place-test.false
+    c.loop-place.invariant.told

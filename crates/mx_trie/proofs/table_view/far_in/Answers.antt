@@ -20,8 +20,10 @@ returns-then-in_mid-ne0 g c = λ words read.
     let round = c.around_in-near.ensures words read in
     elim c.wide_pages.ensures [
       | inl h ↦ subst (λ (s : Span). IsRound (read_map kind upper leaf spill words c.args.root) c.args.word s) (sym h) round
-      | inr w ↦ wide-pages kind g.met.L.LeafForm.trie upper leaf spill (read_map kind upper leaf spill words c.args.root) (way-few kind upper leaf spill words c.args.root read c.args.word c.requires.word) c.args.word c.requires.word
-          _ c.wide_pages.result round a.result b.result (way-region kind upper leaf spill words c.args.root read c.args.word c.requires.word a.result a.ensures)
+      | inr w ↦ wide-pages kind g.met.L.LeafForm.trie upper leaf spill (read_map kind upper leaf spill words c.args.root)
+          (way-few kind upper leaf spill words c.args.root read c.args.word c.requires.word) c.args.word c.requires.word
+          _ c.wide_pages.result round a.result b.result (way-region kind upper leaf spill words c.args.root read c.args.word c.requires.word
+          a.result a.ensures)
           (is-open a.result c.if-in_root-ne0.false) b.ensures (is-closed b.result c.if-in_mid-ne0.true) w
     ]
 
@@ -33,7 +35,9 @@ returns g c = λ words read.
     let round = c.around_in-near.ensures words read in
     elim c.wide_lines.ensures [
       | inl h ↦ subst (λ (s : Span). IsRound (read_map kind upper leaf spill words c.args.root) c.args.word s) (sym h) round
-      | inr w ↦ wide-lines kind g.met.L.LeafForm.trie upper leaf spill (read_map kind upper leaf spill words c.args.root) (way-few kind upper leaf spill words c.args.root read c.args.word c.requires.word) c.args.word c.requires.word
-          _ c.wide_lines.result round b.result (way-page kind upper leaf spill words c.args.root read c.args.word c.requires.word a.result a.ensures c.if-in_root-ne0.false b.result b.ensures)
+      | inr w ↦ wide-lines kind g.met.L.LeafForm.trie upper leaf spill (read_map kind upper leaf spill words c.args.root)
+          (way-few kind upper leaf spill words c.args.root read c.args.word c.requires.word) c.args.word c.requires.word
+          _ c.wide_lines.result round b.result (way-page kind upper leaf spill words c.args.root read c.args.word c.requires.word a.result
+          a.ensures c.if-in_root-ne0.false b.result b.ensures)
           (is-open b.result c.if-in_mid-ne0.false) w
     ]

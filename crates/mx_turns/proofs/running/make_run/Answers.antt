@@ -31,6 +31,7 @@ returns-in-Err-put_dump-clause-turns g c = λ s new is. (c.in-Ok.ensures.ends s 
 pub returns-in-Err : goal.returns-in-Err
 returns-in-Err g c =
     let ends = λ (s : State) (new : IsNew s) (is : meaning c.args.machine.now ≡ flat s).
-    ends_before (texts_of c.args.kept.now c.args.task.now s) _ _ _ _ _ (states_of c.args.task.now s) (meaning c.run_any.new.machine) c.in-Err.fault
+    ends_before (texts_of c.args.kept.now c.args.task.now s) _ _ _ _ _ (states_of c.args.task.now s) (meaning c.run_any.new.machine)
+    c.in-Err.fault
     (c.in-Err.ensures.ends s new is (g.D.Sink.state c.args.dump.now)) in
     record { leave = λ s new is. (ends s new is).0; turns = λ s new is. (ends s new is).1 }

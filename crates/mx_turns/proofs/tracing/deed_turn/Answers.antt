@@ -18,7 +18,16 @@ returns-in-Ok-put_lines-clause-shows g c =
     let h = c.args.hart in (
       rw c.step-kind.ensures.out.bytes at (moves_of c.in-Ok.ensures.adds),
       rw (line_told (flat_reads f) f.core (flat_made f h) c.args.lines h c.requires.asked c.requires.there (harts_kept f h))
-          (rw (c.held-before.ensures, c.held-after.ensures, c.note.ensures, c.step-kind.ensures.out.note, c.step-kind.ensures.turn, c.steps-step.ensures, c.seen_of-seen.ensures.seen, c.step-kind.ensures.kind)
+          (rw (
+            c.held-before.ensures,
+            c.held-after.ensures,
+            c.note.ensures,
+            c.step-kind.ensures.out.note,
+            c.step-kind.ensures.turn,
+            c.steps-step.ensures,
+            c.seen_of-seen.ensures.seen,
+            c.step-kind.ensures.kind,
+          )
           at (moves_passes c.in-Ok-put_lines.ensures.passes c.in-Ok-put_lines.ensures.few)),
     )
 
@@ -28,7 +37,16 @@ returns-in-Err-put_lines-clause-shows g c =
     let h = c.args.hart in (
       rw c.step-kind.ensures.out.bytes at (moves_of c.in-Ok.ensures.adds),
       rw (line_told (flat_reads f) f.core (flat_made f h) c.args.lines h c.requires.asked c.requires.there (harts_kept f h))
-          (rw (c.held-before.ensures, c.held-after.ensures, c.note.ensures, c.step-kind.ensures.out.note, c.step-kind.ensures.turn, c.steps-step.ensures, c.seen_of-seen.ensures.seen, c.step-kind.ensures.kind)
+          (rw (
+            c.held-before.ensures,
+            c.held-after.ensures,
+            c.note.ensures,
+            c.step-kind.ensures.out.note,
+            c.step-kind.ensures.turn,
+            c.steps-step.ensures,
+            c.seen_of-seen.ensures.seen,
+            c.step-kind.ensures.kind,
+          )
           at (breaks_of c.in-Err-put_lines.ensures.passes.stopped)),
     )
 

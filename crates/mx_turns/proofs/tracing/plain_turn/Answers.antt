@@ -11,7 +11,8 @@ returns-in-Ok-put_line-clause-shows g c =
     let f = meaning c.args.machine.now in (
       rw c.step-kind.ensures.out.bytes at (moves_of c.in-Ok.ensures.adds),
       rw (line_plain (flat_reads f) f.core (flat_made f c.args.hart) c.args.lines c.args.hart c.requires.plain)
-          (rw (c.steps-step.ensures, c.seen-before.ensures.seen, c.step-kind.ensures.kind) at (moves_passes c.in-Ok-put_line.ensures.passes c.in-Ok-put_line.ensures.few)),
+          (rw (c.steps-step.ensures, c.seen-before.ensures.seen, c.step-kind.ensures.kind) at
+          (moves_passes c.in-Ok-put_line.ensures.passes c.in-Ok-put_line.ensures.few)),
     )
 
 pub returns-in-Err-put_line-clause-shows : goal.returns-in-Err-put_line-clause-shows
@@ -19,7 +20,8 @@ returns-in-Err-put_line-clause-shows g c =
     let f = meaning c.args.machine.now in (
       rw c.step-kind.ensures.out.bytes at (moves_of c.in-Ok.ensures.adds),
       rw (line_plain (flat_reads f) f.core (flat_made f c.args.hart) c.args.lines c.args.hart c.requires.plain)
-          (rw (c.steps-step.ensures, c.seen-before.ensures.seen, c.step-kind.ensures.kind) at (breaks_of c.in-Err-put_line.ensures.passes.stopped)),
+          (rw (c.steps-step.ensures, c.seen-before.ensures.seen, c.step-kind.ensures.kind) at
+          (breaks_of c.in-Err-put_line.ensures.passes.stopped)),
     )
 
 pub returns-in-Err-clause-shows : goal.returns-in-Err-clause-shows

@@ -13,7 +13,8 @@ pub returns-in_err-put_turn-clause-passes : goal.returns-in_err-put_turn-clause-
 returns-in_err-put_turn-clause-passes g c =
     let p = err_from_is_err_and c.from_residual.result c.from_residual.ensures.1 in
     let told = deed_text (Some (deed c.args.turned c.args.before.now c.args.after.now)) in
-    rw (le-ltb c.args.step c.args.lines.from c.if-step-lines.false, p.1, p.2) (coming_stop told (coming_all _ _ _) c.in_err-put_turn.ensures.passes)
+    rw (le-ltb c.args.step c.args.lines.from c.if-step-lines.false, p.1, p.2)
+    (coming_stop told (coming_all _ _ _) c.in_err-put_turn.ensures.passes)
 
 pub returns-clause-passes : goal.returns-clause-passes
 returns-clause-passes g c =

@@ -20,9 +20,11 @@ returns-in_err-skip_turns g c =
     let none = λ (n : ℕ) (few : n ≤ quiet). sym (trace_quiet q t.lines quiet n s below few) in (
       stops.0,
       omega (arith, stops.1, c.lineless-quiet.ensures.few),
-      stops_lines (λ n. run q n s) (λ n. []) (λ n. trace q t.lines n s) stops.0 (none stops.0 (omega (arith, stops.1))) (none (stops.0 + 1) (omega (arith, stops.1))) (meaning c.skip_turns.new.machine)
+      stops_lines (λ n. run q n s) (λ n. []) (λ n. trace q t.lines n s) stops.0 (none stops.0 (omega (arith, stops.1)))
+          (none (stops.0 + 1) (omega (arith, stops.1))) (meaning c.skip_turns.new.machine)
           (places (g.C.Sink.state c.args.console.now) c.args.shown.now (g.R.Sink.state c.args.report.now) c.args.told.now)
-          (places (g.C.Sink.state c.skip_turns.new.console) c.skip_turns.new.shown (g.R.Sink.state c.skip_turns.new.report) c.skip_turns.new.told) c.in_err-skip_turns.field-0.0 stops.2,
+          (places (g.C.Sink.state c.skip_turns.new.console) c.skip_turns.new.shown (g.R.Sink.state c.skip_turns.new.report)
+          c.skip_turns.new.told) c.in_err-skip_turns.field-0.0 stops.2,
     ))
 
 pub trace_turns-requires-clause-few : goal.trace_turns-requires-clause-few
@@ -39,6 +41,8 @@ returns g c =
     let none = trace_quiet q t.lines quiet quiet s below (omega arith) in
     let whole : quiet + (t.steps - quiet) ≡ t.steps = omega (arith, c.lineless-quiet.ensures.few) in
     let before = places (g.C.Sink.state c.args.console.now) c.args.shown.now (g.R.Sink.state c.args.report.now) c.args.told.now in
-    let now = places (g.C.Sink.state c.trace_turns.new.console) c.trace_turns.new.shown (g.R.Sink.state c.trace_turns.new.report) c.trace_turns.new.told in
-    subst (λ (n : ℕ). RunsOrStops (λ made. run q made s) (λ made. trace q t.lines made s) n (meaning c.trace_turns.new.machine) before now c.trace_turns.result) whole
+    let now = places (g.C.Sink.state c.trace_turns.new.console) c.trace_turns.new.shown (g.R.Sink.state c.trace_turns.new.report)
+    c.trace_turns.new.told in
+    subst (λ (n : ℕ). RunsOrStops (λ made. run q made s) (λ made. trace q t.lines made s) n (meaning c.trace_turns.new.machine) before now
+    c.trace_turns.result) whole
     (c.trace_turns.ensures s quiet before (rw none has))

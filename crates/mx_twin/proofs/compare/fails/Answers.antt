@@ -8,7 +8,8 @@ pub returns-then-differs : goal.returns-then-differs
 returns-then-differs c =
     let here = c.loop-hart-test.true in
     let all = c.harts-hart-end.ensures in
-    sym (any-some (λ h. is_compared c.args.domain (meaning c.args.a.now) (meaning c.args.b.now) h && not (flat_agrees (meaning c.args.a.now) (meaning c.args.b.now) h)) 0 (length (meaning c.args.a.now).core.harts) c.loop-hart.hart
+    sym (any-some (λ h. is_compared c.args.domain (meaning c.args.a.now) (meaning c.args.b.now) h
+    && not (flat_agrees (meaning c.args.a.now) (meaning c.args.b.now) h)) 0 (length (meaning c.args.a.now).core.harts) c.loop-hart.hart
     (omega arith) (omega (arith, here, all)) (sym c.differs.ensures ∙ c.if-differs.true))
 
 pub loop-hart-preserved : goal.loop-hart-preserved
@@ -18,5 +19,6 @@ pub returns : goal.returns
 returns c =
     let end = c.loop-hart-test.false in
     let all = c.harts-hart-end.ensures in
-    sym (any-below (λ h. is_compared c.args.domain (meaning c.args.a.now) (meaning c.args.b.now) h && not (flat_agrees (meaning c.args.a.now) (meaning c.args.b.now) h)) 0 (length (meaning c.args.a.now).core.harts)
+    sym (any-below (λ h. is_compared c.args.domain (meaning c.args.a.now) (meaning c.args.b.now) h
+    && not (flat_agrees (meaning c.args.a.now) (meaning c.args.b.now) h)) 0 (length (meaning c.args.a.now).core.harts)
     (λ i l m. c.loop-hart.invariant i (omega (arith, m, end, all))))

@@ -7,7 +7,8 @@ use Rattle.mx_twin.proofs.gates.same_gates_of.Goals as goal
 
 pub returns-then-not-same_target : goal.returns-then-not-same_target
 returns-then-not-same_target c =
-    passed-not (λ (g : Gate). same_target (meaning c.args.a.now).core (meaning c.args.b.now).core c.args.domain g.word) (meaning c.args.of.now).core.gates
+    passed-not (λ (g : Gate). same_target (meaning c.args.a.now).core (meaning c.args.b.now).core c.args.domain g.word)
+    (meaning c.args.of.now).core.gates
     c.gates.i c.gates.invariant c.in-Some.gate (sym c.in-Some.is ∙ c.gate.ensures) (sym c.same_target.ensures ∙ c.if-not-same_target.true)
 
 pub gates-smaller : goal.gates-smaller
@@ -17,10 +18,12 @@ gates-smaller c =
 
 pub gates-preserved : goal.gates-preserved
 gates-preserved c =
-    passed-more (λ (g : Gate). same_target (meaning c.args.a.now).core (meaning c.args.b.now).core c.args.domain g.word) (meaning c.args.of.now).core.gates
+    passed-more (λ (g : Gate). same_target (meaning c.args.a.now).core (meaning c.args.b.now).core c.args.domain g.word)
+    (meaning c.args.of.now).core.gates
     c.gates.i c.gates.invariant c.in-Some.gate (sym c.in-Some.is ∙ c.gate.ensures) (sym c.same_target.ensures ∙ c.if-not-same_target.false)
 
 pub returns : goal.returns
 returns c =
-    passed-all (λ (g : Gate). same_target (meaning c.args.a.now).core (meaning c.args.b.now).core c.args.domain g.word) (meaning c.args.of.now).core.gates
+    passed-all (λ (g : Gate). same_target (meaning c.args.a.now).core (meaning c.args.b.now).core c.args.domain g.word)
+    (meaning c.args.of.now).core.gates
     c.gates.i c.gates.invariant (sym c.in_default.is ∙ c.gate.ensures)

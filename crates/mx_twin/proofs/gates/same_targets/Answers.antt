@@ -9,7 +9,8 @@ pub returns-then-not-same_target : goal.returns-then-not-same_target
 returns-then-not-same_target c =
     let here = c.loop-word-test.true in
     let low = c.loop-word.auto.word in
-    sym (all-missed (same_target (meaning c.args.a.now).core (meaning c.args.b.now).core c.args.domain) c.args.first c.args.count c.loop-word.word
+    sym (all-missed (same_target (meaning c.args.a.now).core (meaning c.args.b.now).core c.args.domain) c.args.first c.args.count
+    c.loop-word.word
     low here (sym c.same_target.ensures ∙ c.if-not-same_target.true))
 
 pub returns : goal.returns

@@ -8,7 +8,8 @@ pub returns-then-is_compared : goal.returns-then-is_compared
 returns-then-is_compared c =
     let here = c.loop-hart-test.true in
     let all = c.harts-hart-end.ensures in
-    sym (any-some (is_compared c.args.domain (meaning c.args.a.now) (meaning c.args.b.now)) 0 (length (meaning c.args.a.now).core.harts) c.loop-hart.hart
+    sym (any-some (is_compared c.args.domain (meaning c.args.a.now) (meaning c.args.b.now)) 0 (length (meaning c.args.a.now).core.harts)
+    c.loop-hart.hart
     (omega arith) (omega (arith, here, all)) (sym c.is_compared.ensures ∙ c.if-is_compared.true))
 
 pub loop-hart-preserved : goal.loop-hart-preserved

@@ -35,5 +35,6 @@ returns-else-same_run c =
     let first = near.first in
     let second = near.second in
     run-unlike f g c.args.domain c.args.at c.run_at-one.result.1 c.run_at-other.result.1 c.run_at-one.result.0 c.run_at-other.result.0
-    one.more other.more one.alike other.alike c.lesser-next.result more (omega (arith, to, first)) (omega (arith, to, second)) c.args.end next.first
+    one.more other.more one.alike other.alike c.lesser-next.result more (omega (arith, to, first)) (omega (arith, to, second)) c.args.end
+    next.first
     (sym c.same_run.ensures ∙ c.if-same_run.false)

@@ -12,12 +12,14 @@ runs-preserved c =
     record {
       low = omega (arith, low, more);
       high = c.in-Some.ensures.1;
-      seen = all-more (sees_same (flat_reads (meaning c.args.a.now)) (meaning c.args.a.now).core (flat_reads (meaning c.args.b.now)) (meaning c.args.b.now).core c.args.domain) c.args.first c.runs.at c.in-Some.next low
+      seen = all-more (sees_same (flat_reads (meaning c.args.a.now)) (meaning c.args.a.now).core (flat_reads (meaning c.args.b.now))
+          (meaning c.args.b.now).core c.args.domain) c.args.first c.runs.at c.in-Some.next low
           (omega (arith, more)) c.runs.invariant.seen c.in-Some.ensures.2;
     }
 
 pub returns-in-None : goal.returns-in-None
 returns-in-None c =
     let high = c.runs.invariant.high in
-    sym (all-part (sees_same (flat_reads (meaning c.args.a.now)) (meaning c.args.a.now).core (flat_reads (meaning c.args.b.now)) (meaning c.args.b.now).core c.args.domain) c.args.first c.args.count c.runs.at
+    sym (all-part (sees_same (flat_reads (meaning c.args.a.now)) (meaning c.args.a.now).core (flat_reads (meaning c.args.b.now))
+    (meaning c.args.b.now).core c.args.domain) c.args.first c.args.count c.runs.at
     (c.args.first + c.args.count - c.runs.at) c.runs.invariant.low (omega (arith, high)) c.in-None.ensures)

@@ -11,12 +11,16 @@ use Rattle.mx_check.proofs.checker.Checker.allows_fetch.Goals as goal
 
 pub returns : goal.returns
 returns g c =
-    let t = c.self.inside.cached.tables in
+    let t = c.self.inside.tables in
     let maps = g.T.PermTables.maps t in
-    let harts = c.self.inside.cached.harts in
+    let harts = c.self.inside.harts in
     let m = map_of maps c.args.domain in
-    let may : MayLook c.args.hart c.args.domain harts = rw c.self.view_is c.requires.may in
-    let hand : IsAtHand (length m) (kept_at harts c.args.hart).cache c.args.addr = subst (λ n. IsAtHand n (kept_at harts c.args.hart).cache c.args.addr) (sym ((g.met.T.PermTables.shaped t).each c.args.domain (rw c.self.view_is c.requires.domain))) (rw c.self.view_is c.requires.at_hand) in
+    let may : MayLook c.args.hart c.args.domain harts = rw (← c.self.view_is) at c.requires.may in
+    let hand : IsAtHand (length m) (kept_at harts c.args.hart).cache c.args.addr =
+    subst (λ n. IsAtHand n (kept_at harts c.args.hart).cache c.args.addr)
+    (sym ((g.met.T.PermTables.shaped t).each c.args.domain (rw (← c.self.view_is) at c.requires.domain)))
+    (rw (← c.self.view_is) at c.requires.at_hand) in
     rw (← c.self.view_is) (not-true (denies (perm m) c.args.addr Execute)
-    (sym (answer_is g.T.PermTables.kind maps harts c.args.hart c.args.domain g.row.N 0 c.args.addr c.self.invariant may (word_round g.T.PermTables.kind m c.args.addr) Execute)
+    (sym (answer_is g.T.PermTables.kind maps harts c.args.hart c.args.domain g.row.N 0 c.args.addr c.self.invariant may
+    (word_round g.T.PermTables.kind m c.args.addr) Execute)
     ∙ decided-hit g.row.N g.T.PermTables.kind m c.args.hart c.args.domain c.args.addr harts hand))

@@ -3,7 +3,5 @@ use Rattle.mx_check.proofs.checker.Checker.announce.Goals as goal
 
 pub invariant_of-self : goal.invariant_of-self
 invariant_of-self g c =
-    rw c.announce.ensures (announce-keeps _ _ _ c.self.invariant (rw c.self.view_is c.requires.may.hart) _ _ (rw c.self.view_is c.requires.may.free))
-
-pub returns : goal.returns
-returns g c = rw (← c.self.view_is) c.announce.ensures
+    rw c.announce.ensures (announce-keeps _ _ _ c.self.invariant (rw (← c.self.view_is) at c.requires.may.hart) _ _
+    (rw (← c.self.view_is) at c.requires.may.free))

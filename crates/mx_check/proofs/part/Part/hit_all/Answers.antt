@@ -9,9 +9,17 @@ pub returns : goal.returns
 returns g c =
     let i = c.self.inside in
     let k : Kept = record {
-      cache = record { places = i.places; kept = i.kept; sidecar = i.counts.sidecar; lookaside = i.counts.lookaside; walks = i.counts.walks };
+      cache = record {
+        places = i.places;
+        kept = i.kept;
+        sidecar = i.counts.sidecar;
+        lookaside = i.counts.lookaside;
+        walks =
+            i.counts.walks;
+      };
       halted = i.halted;
       domain = i.domain;
       flight = i.flight;
     } in
-    rw (← c.self.view_is) (hits-counted c.args.fetches c.args.domain k _ (some-but-none c.args.fetches c.if-fetches-eq0.false) c.raised_by-self-inside.ensures.fits c.raised_by-self-inside.ensures.sum)
+    rw (← c.self.view_is) (hits-counted c.args.fetches c.args.domain k _ (some-but-none c.args.fetches c.if-fetches-eq0.false)
+    c.raised_by-self-inside.ensures.fits c.raised_by-self-inside.ensures.sum)

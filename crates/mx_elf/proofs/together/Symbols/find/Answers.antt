@@ -8,7 +8,8 @@ use Rattle.mx_elf.proofs.together.Symbols.find.Goals as goal
 pub returns-clause-names : goal.returns-clause-names
 returns-clause-names c = λ name.
     ap is_some (told-known name c.look_up.new.values.entries)
-    ∙ found-names (list_any (λ n. bytes_eq name n.now) c.args.names.now) (symbol_of c.args.bytes.now name) (known_in c.in_ok-values.values name) _
+    ∙ found-names (list_any (λ n. bytes_eq name n.now) c.args.names.now) (symbol_of c.args.bytes.now name)
+    (known_in c.in_ok-values.values name) _
     (c.in_ok-values.ensures name) (c.look_up.ensures name)
 
 pub returns-clause-values : goal.returns-clause-values

@@ -12,7 +12,8 @@ returns-then-place c w low high =
     let d = c.args.domain in
     let first = c.behind-first.result in
     let end = c.before-end.result in
-    let as_many : place_of d first s.sorted.items ≡ place_of d end s.sorted.items = ap (place_of d first) (sym c.as_slice-sorted.ensures.value)
+    let as_many : place_of d first s.sorted.items ≡ place_of d end s.sorted.items =
+    ap (place_of d first) (sym c.as_slice-sorted.ensures.value)
     ∙ sym c.place.ensures.place ∙ c.if-place.true ∙ c.place-2.ensures.place ∙ ap (place_of d end) c.as_slice-sorted.ensures.value in
     rw (← c.self.view_is) (ap (λ (o : Option Gate). option_map (λ (g : Gate). g.target) o)
     (sym (c.self.invariant.1.same d w) ∙ clear-between d first end w s.sorted.items c.self.invariant.1.rising as_many low high))

@@ -13,7 +13,8 @@ returns-then-self-bucket-eq0 c =
     let d = c.args.domain in
     let w = c.args.word in
     let b = c.bucket.ensures.value in
-    let none : lying (bucket d w) s.gates.items ≡ 0 = sym (c.self.invariant.1.counted (bucket d w) (rw (sym b) c.bucket.ensures.bounded)) ∙ ap (λ k. get_or s.counts k 0) (sym b) ∙ c.if-self-bucket-eq0.true in
+    let none : lying (bucket d w) s.gates.items ≡ 0 = sym (c.self.invariant.1.counted (bucket d w) (rw (sym b) c.bucket.ensures.bounded))
+    ∙ ap (λ k. get_or s.counts k 0) (sym b) ∙ c.if-self-bucket-eq0.true in
     sym (ap (λ (xs : List Gate). gate_at xs d w) (sym c.self.view_is) ∙ lying-none s.gates.items d w none)
 
 pub returns : goal.returns

@@ -33,7 +33,8 @@ overflow_sub-self c =
     let w = c.args.word in
     let has : has_gate s.gates.items d w ≡ true = ap (λ (xs : List Gate). has_gate xs d w) c.self.view_is ∙ c.requires.stands in
     let b = c.bucket.ensures.value in
-    let count : get_or s.counts c.bucket.result 0 ≡ lying (bucket d w) s.gates.items = ap (λ k. get_or s.counts k 0) b ∙ c.self.invariant.1.counted (bucket d w) (rw (sym b) c.bucket.ensures.bounded) in
+    let count : get_or s.counts c.bucket.result 0 ≡ lying (bucket d w) s.gates.items = ap (λ k. get_or s.counts k 0) b
+    ∙ c.self.invariant.1.counted (bucket d w) (rw (sym b) c.bucket.ensures.bounded) in
     omega (arith, count, lying-some s.gates.items d w has)
 
 pub invariant_of-self : goal.invariant_of-self
@@ -44,8 +45,12 @@ invariant_of-self c =
     let has : has_gate s.gates.items d w ≡ true = ap (λ (xs : List Gate). has_gate xs d w) c.self.view_is ∙ c.requires.stands in
     let at = c.sorted_place-at.ensures ∙ ap (position_or_len (is_at d w)) c.as_slice.ensures.value in
     let at2 = c.first_place-at.ensures ∙ ap (position_or_len (is_at d w)) c.as_slice-2.ensures.value in
-    rw (c.remove-2.ensures.items, c.remove.ensures.items, at2, at, c.bucket.ensures.value, removed d w s.gates.items c.self.invariant.0 has)
-    (single-filter _ s.gates.items c.self.invariant.0, Indexes-without s.gates.items s.sorted.items s.counts c.self.invariant.1 d w c.self.invariant.0 has)
+    let fewer = removed d w s.gates.items c.self.invariant.0 has in
+    rw (c.remove-2.ensures.items, c.remove.ensures.items, at2, at, c.bucket.ensures.value, fewer) (
+      single-filter _ s.gates.items c.self.invariant.0,
+      Indexes-without s.gates.items s.sorted.items s.counts c.self.invariant.1 d w
+          c.self.invariant.0 has,
+    )
 
 pub returns : goal.returns
 returns c =

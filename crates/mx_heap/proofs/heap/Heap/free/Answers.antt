@@ -23,13 +23,15 @@ abbrev heap_of : ℕ → ℕ → List Area → HeapState
 heap_of first count bs = record { area = record { first = first; count = count }; blocks = bs }
 
 -- the block that was found
-block_is : (c : After-index) → Standing c.self.inside.first (c.self.inside.first + c.self.inside.count) c.self.inside.parts.items c.args.first c.in-Some.i
+block_is : (c : After-index) → Standing c.self.inside.first (c.self.inside.first + c.self.inside.count) c.self.inside.parts.items
+    c.args.first c.in-Some.i
 block_is c =
     let told : ◌≡◌ {A = Option ℕ} (Some c.in-Some.i) (position (is_block_at c.args.first) c.deref.result.now) = c.in-Some.ensures in
     let e : position (is_block_at c.args.first) c.self.inside.parts.items ≡ Some c.in-Some.i = sym (rw c.deref.ensures.value at told) in
     standing _ _ _ c.args.first c.in-Some.i c.self.invariant.are.fill e
 
-joined_is : (c : After-index) → AfterJoin c.self.inside.first (c.self.inside.first + c.self.inside.count) c.self.inside.parts.items c.in-Some.i
+joined_is : (c : After-index) → AfterJoin c.self.inside.first (c.self.inside.first + c.self.inside.count) c.self.inside.parts.items
+    c.in-Some.i
 joined_is c = after_join _ _ _ c.in-Some.i c.self.invariant.are.fill (block_is c).within (block_is c).live
 
 none_is : (c : In-None) → position (is_block_at c.args.first) c.self.inside.parts.items ≡ None
@@ -38,7 +40,8 @@ none_is c =
     sym (rw c.deref.ensures.value at told)
 
 pub returns-in-None-clause-count : goal.returns-in-None-clause-count
-returns-in-None-clause-count c = rw (← c.self.view_is) (sym (no_block c.self.inside.parts.items c.args.first (none_is (goal.at.returns-in-None-clause-count c).In-None)).0)
+returns-in-None-clause-count c = rw (← c.self.view_is) (sym (no_block c.self.inside.parts.items c.args.first
+    (none_is (goal.at.returns-in-None-clause-count c).In-None)).0)
 
 pub returns-in-None-clause-ended : goal.returns-in-None-clause-ended
 returns-in-None-clause-ended c = rw (← c.self.view_is)
@@ -60,21 +63,27 @@ overflow_sub-self c = omega (arith, (joined_is (goal.at.overflow_sub-self c).Aft
 pub invariant_of-self : goal.invariant_of-self
 invariant_of-self c =
     let d : After-index = (goal.at.invariant_of-self c).After-index in
-    let s : Standing c.self.inside.first (c.self.inside.first + c.self.inside.count) c.self.inside.parts.items c.args.first c.in-Some.i = block_is d in
+    let s : Standing c.self.inside.first (c.self.inside.first + c.self.inside.count) c.self.inside.parts.items c.args.first c.in-Some.i =
+    block_is d in
     record {
-      are = kept_joined _ _ _ _ _ c.self.invariant.are c.in-Some.i _ _ (joined_is d) c.join_holes.ensures.items c.join_holes.ensures.capacity;
+      are = kept_joined _ _ _ _ _ c.self.invariant.are c.in-Some.i _ _ (joined_is d) c.join_holes.ensures.items
+          c.join_holes.ensures.capacity;
       listed = c.take_block.ensures.items ∙ ap (λ (bs : List Area). without_block c.args.first bs) c.self.invariant.listed
-          ∙ ap (λ (n : ℕ). without_block n (blocks_of c.self.inside.parts.items)) (sym s.begins) ∙ sym (ap (λ (ps : List Part). blocks_of ps) c.join_holes.ensures.items ∙ (joined_is d).blocks);
+          ∙ ap (λ (n : ℕ). without_block n (blocks_of c.self.inside.parts.items)) (sym s.begins)
+          ∙ sym (ap (λ (ps : List Part). blocks_of ps) c.join_holes.ensures.items ∙ (joined_is d).blocks);
       room_is = omega (arith, c.self.invariant.room_is, c.take_block.ensures.capacity);
     }
 
 pub returns : goal.returns
 returns c =
     let d : After-index = (goal.at.returns c).After-index in
-    let s : Standing d.self.inside.first (d.self.inside.first + d.self.inside.count) d.self.inside.parts.items d.args.first d.in-Some.i = block_is d in
+    let s : Standing d.self.inside.first (d.self.inside.first + d.self.inside.count) d.self.inside.parts.items d.args.first d.in-Some.i =
+    block_is d in
     let a : AfterJoin d.self.inside.first (d.self.inside.first + d.self.inside.count) d.self.inside.parts.items d.in-Some.i = joined_is d in
-    let part : d.index.result.now ≡ part_at d.self.inside.parts.items d.in-Some.i = get_or_read d.self.inside.parts.items d.in-Some.i d.index.result.now s.within d.index.ensures wall in
-    let new : blocks_of c.join_holes.new.parts.items ≡ without_block (part_at d.self.inside.parts.items d.in-Some.i).first (blocks_of d.self.inside.parts.items) =
+    let part : d.index.result.now ≡ part_at d.self.inside.parts.items d.in-Some.i =
+    get_or_read d.self.inside.parts.items d.in-Some.i d.index.result.now s.within d.index.ensures wall in
+    let new : blocks_of c.join_holes.new.parts.items ≡ without_block (part_at d.self.inside.parts.items d.in-Some.i).first
+    (blocks_of d.self.inside.parts.items) =
     ap (λ (ps : List Part). blocks_of ps) c.join_holes.ensures.items ∙ a.blocks in
     rw (← c.self.view_is, part, ← s.begins) (record {
       count = sym a.found;

@@ -31,15 +31,20 @@ record Hole (c : In-Some) : Type 0 where
   around : is_hole_around c.args.first c.args.count (part_at c.self.inside.parts.items c.in-Some.i) ≡ true
   free : (part_at c.self.inside.parts.items c.in-Some.i).live ≡ false
   begins : (part_at c.self.inside.parts.items c.in-Some.i).first ≤ c.args.first
-  ends : c.args.first + c.args.count ≤ (part_at c.self.inside.parts.items c.in-Some.i).first + (part_at c.self.inside.parts.items c.in-Some.i).count
-  high : (part_at c.self.inside.parts.items c.in-Some.i).first + (part_at c.self.inside.parts.items c.in-Some.i).count ≤ c.self.inside.first + c.self.inside.count
+  ends : c.args.first + c.args.count ≤ (part_at c.self.inside.parts.items c.in-Some.i).first
+      + (part_at c.self.inside.parts.items c.in-Some.i).count
+  high : (part_at c.self.inside.parts.items c.in-Some.i).first + (part_at c.self.inside.parts.items c.in-Some.i).count ≤ c.self.inside.first
+      + c.self.inside.count
 
 hole_is : (c : In-Some) → Hole c
 hole_is c =
-    let told : ◌≡◌ {A = Option ℕ} (Some c.in-Some.i) (position (is_hole_around c.args.first c.args.count) c.deref.result.now) = c.in-Some.ensures in
-    let e : position (is_hole_around c.args.first c.args.count) c.self.inside.parts.items ≡ Some c.in-Some.i = sym (rw c.deref.ensures.value at told) in
+    let told : ◌≡◌ {A = Option ℕ} (Some c.in-Some.i) (position (is_hole_around c.args.first c.args.count) c.deref.result.now) =
+    c.in-Some.ensures in
+    let e : position (is_hole_around c.args.first c.args.count) c.self.inside.parts.items ≡ Some c.in-Some.i =
+    sym (rw c.deref.ensures.value at told) in
     let p : Part = part_at c.self.inside.parts.items c.in-Some.i in
-    let at : (c.in-Some.i < length c.self.inside.parts.items) × (is_hole_around c.args.first c.args.count p ≡ true) × ((k : ℕ) → k < c.in-Some.i → is_hole_around c.args.first c.args.count (part_at c.self.inside.parts.items k) ≡ false) =
+    let at : (c.in-Some.i < length c.self.inside.parts.items) × (is_hole_around c.args.first c.args.count p ≡ true) × ((k : ℕ)
+    → k < c.in-Some.i → is_hole_around c.args.first c.args.count (part_at c.self.inside.parts.items k) ≡ false) =
     position-Some (is_hole_around c.args.first c.args.count) c.self.inside.parts.items c.in-Some.i wall e in
     let sides : (not p.live ≡ true) × ((nat_le p.first c.args.first && nat_le (c.args.first + c.args.count) (p.first + p.count)) ≡ true) =
     and_parts (not p.live) (nat_le p.first c.args.first && nat_le (c.args.first + c.args.count) (p.first + p.count)) at.1 in
@@ -51,11 +56,14 @@ hole_is c =
       free = not-true p.live sides.0;
       begins = leb-true p.first c.args.first ends.0;
       ends = leb-true (c.args.first + c.args.count) (p.first + p.count) ends.1;
-      high = (part_bounds c.self.inside.first (c.self.inside.first + c.self.inside.count) true c.self.inside.parts.items c.in-Some.i c.self.invariant.are.fill at.0).2;
+      high = (part_bounds c.self.inside.first (c.self.inside.first + c.self.inside.count) true c.self.inside.parts.items c.in-Some.i
+          c.self.invariant.are.fill at.0).2;
     }
 
-split_is : (c : In-Some) → AfterSplit c.self.inside.first (c.self.inside.first + c.self.inside.count) true c.self.inside.parts.items c.in-Some.i c.args.first c.args.count
-split_is c = after_split _ _ true c.self.inside.parts.items c.in-Some.i c.args.first c.args.count c.self.invariant.are.fill (hole_is c).within (hole_is c).free (omega arith) (hole_is c).begins (hole_is c).ends
+split_is : (c : In-Some) → AfterSplit c.self.inside.first (c.self.inside.first + c.self.inside.count) true c.self.inside.parts.items
+    c.in-Some.i c.args.first c.args.count
+split_is c = after_split _ _ true c.self.inside.parts.items c.in-Some.i c.args.first c.args.count c.self.invariant.are.fill
+    (hole_is c).within (hole_is c).free (omega arith) (hole_is c).begins (hole_is c).ends
 
 pub returns-in-None-clause-restored : goal.returns-in-None-clause-restored
 returns-in-None-clause-restored c =
@@ -65,7 +73,8 @@ returns-in-None-clause-restored c =
     let bs : List Area = blocks_of c.self.inside.parts.items in
     let some : 0 < c.args.count = omega arith in
     let shut : has_room area bs c.args.count c.args.first ≡ false =
-    no_room_without area c.self.inside.parts.items c.self.invariant.are.fill c.args.first c.args.count some (position_none (is_hole_around c.args.first c.args.count) c.self.inside.parts.items e) in
+    no_room_without area c.self.inside.parts.items c.self.invariant.are.fill c.args.first c.args.count some
+    (position_none (is_hole_around c.args.first c.args.count) c.self.inside.parts.items e) in
     rw (← c.self.view_is)
     (sym (and_left (nat_lt 0 c.args.count && has_room area bs c.args.count c.args.first) (nat_lt (length bs) most_blocks)
     (and_right (nat_lt 0 c.args.count) (has_room area bs c.args.count c.args.first) shut)))
@@ -88,7 +97,8 @@ invariant_of-self c =
     record {
       are = kept_split _ _ _ _ _ c.self.invariant.are c.in-Some.i c.args.first c.args.count _ _ c.if-self-eq-BLOCKS.false
           (split_is d) c.split_hole.ensures.items c.split_hole.ensures.capacity;
-      listed = c.put_block.ensures.items ∙ ap (λ (bs : List Area). with_block b bs) c.self.invariant.listed ∙ sym (ap (λ (ps : List Part). blocks_of ps) c.split_hole.ensures.items ∙ (split_is d).blocks);
+      listed = c.put_block.ensures.items ∙ ap (λ (bs : List Area). with_block b bs) c.self.invariant.listed
+          ∙ sym (ap (λ (ps : List Part). blocks_of ps) c.split_hole.ensures.items ∙ (split_is d).blocks);
       room_is = omega (arith, c.self.invariant.room_is, c.put_block.ensures.capacity);
     }
 
@@ -100,12 +110,14 @@ returns c =
     let some : 0 < c.args.count = omega arith in
     let less : length bs < most_blocks = omega (arith, c.self.invariant.are.counted, c.self.invariant.are.few, c.if-self-eq-BLOCKS.false) in
     let fits : has_room area bs c.args.count c.args.first ≡ true =
-    room_in_hole area c.self.inside.parts.items c.self.invariant.are.fill c.in-Some.i c.args.first c.args.count (hole_is d).within (hole_is d).around in
+    room_in_hole area c.self.inside.parts.items c.self.invariant.are.fill c.in-Some.i c.args.first c.args.count (hole_is d).within
+    (hole_is d).around in
     let new : blocks_of c.split_hole.new.parts.items ≡ with_block (record { first = c.args.first; count = c.args.count }) bs =
     ap (λ (ps : List Part). blocks_of ps) c.split_hole.ensures.items ∙ (split_is d).blocks in
     rw (← c.self.view_is) (record {
       restored = sym (and_from (nat_lt 0 c.args.count && has_room area bs c.args.count c.args.first) (nat_lt (length bs) most_blocks)
-          (and_from (nat_lt 0 c.args.count) (has_room area bs c.args.count c.args.first) (lt-ltb 0 c.args.count some) fits) (lt-ltb (length bs) most_blocks less));
+          (and_from (nat_lt 0 c.args.count) (has_room area bs c.args.count c.args.first) (lt-ltb 0 c.args.count some) fits)
+          (lt-ltb (length bs) most_blocks less));
       live = ap (λ (xs : List Area). heap_of c.self.inside.first c.self.inside.count xs) new;
       unchanged = tt;
     })

@@ -9,5 +9,7 @@ returns-clause-ok c =
     let inside = c.self.inside in
     let last : (c.len-last.result - 1) + 1 ≡ length inside.segments.items = search rules in
     on_ok_weaker c.extend_from_slice.result (λ is. rw (← c.self.view_is) (ap (λ ss. program_of inside.entry ss inside.labels.items)
-    (set-last inside.segments.items (c.len-last.result - 1) _ c.index_mut-segment.result.now c.extend_from_slice.new.self c.args.bytes.now last c.index_mut-segment.ensures.value is)
-    ∙ sym (with_bytes-segments c.args.bytes.now (program_of inside.entry inside.segments.items inside.labels.items)))) c.extend_from_slice.ensures.ok
+    (set-last inside.segments.items (c.len-last.result - 1) _ c.index_mut-segment.result.now c.extend_from_slice.new.self c.args.bytes.now
+    last c.index_mut-segment.ensures.value is)
+    ∙ sym (with_bytes-segments c.args.bytes.now (program_of inside.entry inside.segments.items inside.labels.items))))
+    c.extend_from_slice.ensures.ok

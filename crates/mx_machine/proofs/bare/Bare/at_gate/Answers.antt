@@ -37,8 +37,20 @@ pub pass-requires : goal.pass-requires
 pass-requires g c =
     let m = c.args.self.now in
     let x = hart_among m.harts c.args.hart in
-    let at = c.requires.at in
-    (assumption c, (c.requires.valid, (at.run, (target-domain m x.domain x.pc c.args.target c.requires.valid at.run.act.fits at.gate, c.requires.empty))))
+    let at = c.requires.at in (
+      assumption c,
+      (
+        c.requires.valid,
+        (
+          at.run,
+          (
+            target-domain m x.domain x.pc c.args.target c.requires.valid at.run.act.fits
+                at.gate,
+            c.requires.empty,
+          ),
+        ),
+      ),
+    )
 
 pub returns-else-target-domain : goal.returns-else-target-domain
 returns-else-target-domain g c =

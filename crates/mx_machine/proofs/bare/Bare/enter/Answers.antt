@@ -15,7 +15,8 @@ use Rattle.mx_machine.proofs.bare.Bare.enter.Goals as goal
 
 pub behind-own-requires-clause-area : goal.behind-own-requires-clause-area
 behind-own-requires-clause-area g c =
-    subst (λ (m : Held). ((area_of m.stacks c.args.target).words ≡ 0) ⊎ ((area_of m.stacks c.args.target).first + (area_of m.stacks c.args.target).words * (c.args.hart + 1) ≤ most_words))
+    subst (λ (m : Held). ((area_of m.stacks c.args.target).words ≡ 0)
+    ⊎ ((area_of m.stacks c.args.target).first + (area_of m.stacks c.args.target).words * (c.args.hart + 1) ≤ most_words))
     (sym c.self.view_is) c.requires.area
 
 pub returns : goal.returns
@@ -25,7 +26,8 @@ returns g c =
     let v = held_of p b in
     let h = c.args.hart in
     let to = c.args.target in
-    ap (λ k. held_of p (record b { bus = record b.bus { supervisor = record b.bus.supervisor { checker = k } }; harts = c.enter.new.self })) c.leave_domain.ensures
+    ap (λ k. held_of p (record b { bus = record b.bus { supervisor = record b.bus.supervisor { checker = k } }; harts = c.enter.new.self }))
+    c.leave_domain.ensures
     ∙ ap (λ (hs : List Hart). with_kept h leaves_domain (record v { harts = hs })) c.enter.ensures
     ∙ ap (λ (n : ℕ). with_kept h leaves_domain (with_step h (enters to n) v))
     (c.stack_in-stack.ensures ∙ ap (λ (own : ℕ). unwrap_or (nearest (hart_among v.harts h).frames to) own) c.behind-own.ensures)

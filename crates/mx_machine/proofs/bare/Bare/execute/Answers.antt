@@ -21,8 +21,13 @@ instruct-requires g c =
 pub trap-requires : goal.trap-requires
 trap-requires g c =
     let m = c.args.self.now in
-    let caused = subst (λ (o : Outcome). HasCause o) c.in-Trap.is c.instruct.ensures.cause in
-    (assumption c, (rw c.instruct.ensures.after (runs-instruction m c.args.hart c.args.returns c.requires.run), (omega (arith, caused), c.requires.empty)))
+    let caused = subst (λ (o : Outcome). HasCause o) c.in-Trap.is c.instruct.ensures.cause in (
+      assumption c,
+      (
+        rw c.instruct.ensures.after (runs-instruction m c.args.hart c.args.returns c.requires.run),
+        (omega (arith, caused), c.requires.empty),
+      ),
+    )
 
 pub ask-requires : goal.ask-requires
 ask-requires g c =
@@ -80,7 +85,8 @@ returns-in-Call g c =
           c.ask.new.self c.ask.new.out c.ask.result O.Call e tt made;
       fits = c.ask.ensures.fits;
       on = λ on. absurd (ended-on _ on);
-      ran = λ ran. absurd (asks-ended c.instruct.new.self h (call_of h (hart_in c.instruct.new.self h)) (sym c.ask.ensures.made.kind ∙ ran));
+      ran = λ ran. absurd (asks-ended c.instruct.new.self h (call_of h (hart_in c.instruct.new.self h)) (sym c.ask.ensures.made.kind
+          ∙ ran));
     }
 
 pub returns-in-Back : goal.returns-in-Back

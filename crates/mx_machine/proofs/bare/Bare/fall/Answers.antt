@@ -28,9 +28,14 @@ returns-then-give_up g c =
     let v = held_of p b in
     let h = c.args.hart in
     let o = top (hart_among b.harts h).frames in
-    ap (λ k. held_of p (record b { bus = record b.bus { supervisor = record b.bus.supervisor { checker = k } }; harts = c.give_up.new.self })) c.leave_domain.ensures
+    ap (λ k. held_of p (record b {
+      bus = record b.bus { supervisor = record b.bus.supervisor { checker = k } };
+      harts =
+          c.give_up.new.self;
+    })) c.leave_domain.ensures
     ∙ ap (λ (hs : List Hart). with_kept h leaves_domain (record v { harts = hs })) c.give_up.ensures.after
-    ∙ ap (λ (f : Kept → Kept). with_kept h f (with_step h (gives_up c.args.cause) v)) (sym (kept-over o (sym c.give_up.ensures.frame ∙ c.if-give_up.true)))
+    ∙ ap (λ (f : Kept → Kept). with_kept h f (with_step h (gives_up c.args.cause) v))
+    (sym (kept-over o (sym c.give_up.ensures.frame ∙ c.if-give_up.true)))
     ∙ ap (λ (m : Held). fallen h c.args.cause m) c.self.view_is
 
 pub returns-else-give_up : goal.returns-else-give_up
@@ -40,9 +45,14 @@ returns-else-give_up g c =
     let v = held_of p b in
     let h = c.args.hart in
     let o = top (hart_among b.harts h).frames in
-    ap (λ k. held_of p (record b { bus = record b.bus { supervisor = record b.bus.supervisor { checker = k } }; harts = c.give_up.new.self })) c.halt.ensures
+    ap (λ k. held_of p (record b {
+      bus = record b.bus { supervisor = record b.bus.supervisor { checker = k } };
+      harts =
+          c.give_up.new.self;
+    })) c.halt.ensures
     ∙ ap (λ (hs : List Hart). with_kept h counts_as_halted (record v { harts = hs })) c.give_up.ensures.after
-    ∙ ap (λ (f : Kept → Kept). with_kept h f (with_step h (gives_up c.args.cause) v)) (sym (kept-none o (sym c.give_up.ensures.frame ∙ c.if-give_up.false)))
+    ∙ ap (λ (f : Kept → Kept). with_kept h f (with_step h (gives_up c.args.cause) v))
+    (sym (kept-none o (sym c.give_up.ensures.frame ∙ c.if-give_up.false)))
     ∙ ap (λ (m : Held). fallen h c.args.cause m) c.self.view_is
 
 pub give_up-requires-clause-hart : goal.give_up-requires-clause-hart

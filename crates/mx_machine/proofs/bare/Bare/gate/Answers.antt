@@ -9,7 +9,8 @@ use Rattle.mx_machine.proofs.bare.Bare.gate.Goals as goal
 
 pub word_of-requires : goal.word_of-requires
 word_of-requires g c =
-    subst (λ (n : ℕ). n ≤ 2 ^ 24) (sym (c.words.ensures ∙ ap g.T.PermTables.size c.tables.ensures ∙ ap (λ (m : Held). m.parts.size) c.self.view_is)) c.requires
+    subst (λ (n : ℕ). n ≤ 2 ^ 24) (sym (c.words.ensures ∙ ap g.T.PermTables.size c.tables.ensures
+    ∙ ap (λ (m : Held). m.parts.size) c.self.view_is)) c.requires
 
 pub returns-in-Some : goal.returns-in-Some
 returns-in-Some g c =

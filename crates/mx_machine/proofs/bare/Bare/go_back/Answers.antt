@@ -31,16 +31,19 @@ trap-requires-else-back-target g c = (assumption c, (c.requires.run, (cause-17, 
 pub returns-in-None : goal.returns-in-None
 returns-in-None g c =
     let m = c.args.self.now in
-    let e = sym (ap (λ (m : Held). option_map (λ (f : Frame). f.back) (top (hart_among m.harts c.args.hart).frames)) c.self.view_is) ∙ sym c.in-None.ensures in
+    let e = sym (ap (λ (m : Held). option_map (λ (f : Frame). f.back) (top (hart_among m.harts c.args.hart).frames)) c.self.view_is)
+    ∙ sym c.in-None.ensures in
     record {
-      made = made-moved m _ _ _ _ _ _ _ refl refl (sym (back-none m c.args.hart c.args.rd c.args.target c.requires.run e)) c.trap.ensures.made;
+      made = made-moved m _ _ _ _ _ _ _ refl refl (sym (back-none m c.args.hart c.args.rd c.args.target c.requires.run e))
+          c.trap.ensures.made;
       fits = c.trap.ensures.fits;
     }
 
 pub returns-then-back-target : goal.returns-then-back-target
 returns-then-back-target g c =
     let m = c.args.self.now in
-    let e = sym (ap (λ (m : Held). option_map (λ (f : Frame). f.back) (top (hart_among m.harts c.args.hart).frames)) c.self.view_is) ∙ sym c.in-Some.ensures in
+    let e = sym (ap (λ (m : Held). option_map (λ (f : Frame). f.back) (top (hart_among m.harts c.args.hart).frames)) c.self.view_is)
+    ∙ sym c.in-Some.ensures in
     let d = back-same m c.args.hart c.args.rd c.args.target c.requires.run _ e c.if-back-target.true in
     record {
       made = made-moved m (returned c.args.hart c.args.rd m) _ _ _ _ _ _ (sym c.leave.ensures) (sym c.requires.empty) refl d.made;
@@ -50,9 +53,11 @@ returns-then-back-target g c =
 pub returns-else-back-target : goal.returns-else-back-target
 returns-else-back-target g c =
     let m = c.args.self.now in
-    let e = sym (ap (λ (m : Held). option_map (λ (f : Frame). f.back) (top (hart_among m.harts c.args.hart).frames)) c.self.view_is) ∙ sym c.in-Some.ensures in
+    let e = sym (ap (λ (m : Held). option_map (λ (f : Frame). f.back) (top (hart_among m.harts c.args.hart).frames)) c.self.view_is)
+    ∙ sym c.in-Some.ensures in
     record {
-      made = made-moved m _ _ _ _ _ _ _ refl refl (sym (back-other m c.args.hart c.args.rd c.args.target c.requires.run _ e c.if-back-target.false)) c.trap-else-back-target.ensures.made;
+      made = made-moved m _ _ _ _ _ _ _ refl refl (sym (back-other m c.args.hart c.args.rd c.args.target c.requires.run _ e
+          c.if-back-target.false)) c.trap-else-back-target.ensures.made;
       fits = c.trap-else-back-target.ensures.fits;
     }
 

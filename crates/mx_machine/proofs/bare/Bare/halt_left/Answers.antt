@@ -11,8 +11,10 @@ pub halt_one-requires : goal.halt_one-requires
 halt_one-requires g c =
     let m = c.args.self.now in
     let i = c.loop-hart.hart in
-    let now : c.loop-hart.self ≡ record m { parts = record m.parts { harts = halted_first i m.harts m.parts.harts } } = c.loop-hart.invariant in
-    let count = c.len-hart-end.ensures.number ∙ ap (λ (n : Held). length n.harts) c.self.view_is ∙ c.requires.count ∙ sym (halted-count i m.harts m.parts.harts) in (
+    let now : c.loop-hart.self ≡ record m { parts = record m.parts { harts = halted_first i m.harts m.parts.harts } } =
+    c.loop-hart.invariant in
+    let count = c.len-hart-end.ensures.number ∙ ap (λ (n : Held). length n.harts) c.self.view_is ∙ c.requires.count
+    ∙ sym (halted-count i m.harts m.parts.harts) in (
       search,
       (
         subst (λ (n : Held). i < length n.parts.harts) (sym now) (subst (λ k. i < k) count c.loop-hart-test.true),
@@ -27,7 +29,8 @@ loop-hart-preserved g c =
     let i = c.loop-hart.hart in
     c.halt_one.ensures
     ∙ ap (λ (n : Held). record n { parts = record n.parts { harts = halted_at i n.harts n.parts.harts } }) c.loop-hart.invariant
-    ∙ ap (λ (k : ℕ). record m { parts = record m.parts { harts = halted_first k m.harts m.parts.harts } }) (let next : suc i ≡ i + 1 = omega arith in next)
+    ∙ ap (λ (k : ℕ). record m { parts = record m.parts { harts = halted_first k m.harts m.parts.harts } }) (let next : suc i ≡ i + 1 =
+    omega arith in next)
 
 pub returns : goal.returns
 returns g c =

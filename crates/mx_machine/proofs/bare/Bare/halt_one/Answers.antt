@@ -23,12 +23,23 @@ returns-then-is_halted g c =
     let h = c.args.hart in
     let halted : true ≡ is_halted (hart_among c.args.self.now.harts h).progress =
     sym c.if-is_halted.true ∙ c.is_halted.ensures ∙ ap (λ (n : Held). is_halted (hart_among n.harts h).progress) c.self.view_is in
-    rw c.halt.ensures (ap (λ (n : Held). record n { parts = record n.parts { harts = at_hart h counts_as_halted n.parts.harts } }) c.self.view_is)
-    ∙ ap (λ (b : Bool). record c.args.self.now { parts = record c.args.self.now.parts { harts = cond b (at_hart h counts_as_halted c.args.self.now.parts.harts) c.args.self.now.parts.harts } }) halted
+    rw c.halt.ensures (ap (λ (n : Held). record n { parts = record n.parts { harts = at_hart h counts_as_halted n.parts.harts } })
+    c.self.view_is)
+    ∙ ap (λ (b : Bool). record c.args.self.now {
+      parts = record c.args.self.now.parts {
+        harts =
+            cond b (at_hart h counts_as_halted c.args.self.now.parts.harts) c.args.self.now.parts.harts;
+      };
+    }) halted
 
 pub returns-else-is_halted : goal.returns-else-is_halted
 returns-else-is_halted g c =
     let h = c.args.hart in
     let runs : false ≡ is_halted (hart_among c.args.self.now.harts h).progress =
     sym c.if-is_halted.false ∙ c.is_halted.ensures ∙ ap (λ (n : Held). is_halted (hart_among n.harts h).progress) c.self.view_is in
-    ap (λ (b : Bool). record c.args.self.now { parts = record c.args.self.now.parts { harts = cond b (at_hart h counts_as_halted c.args.self.now.parts.harts) c.args.self.now.parts.harts } }) runs
+    ap (λ (b : Bool). record c.args.self.now {
+      parts = record c.args.self.now.parts {
+        harts =
+            cond b (at_hart h counts_as_halted c.args.self.now.parts.harts) c.args.self.now.parts.harts;
+      };
+    }) runs

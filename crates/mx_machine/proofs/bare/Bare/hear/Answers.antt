@@ -10,11 +10,13 @@ use Rattle.mx_machine.proofs.bare.Bare.hear.Goals as goal
 pub returns-else-self-clause-after : goal.returns-else-self-clause-after
 returns-else-self-clause-after g c =
     ap (λ (kept : List Kept). record c.args.self.now { parts = record c.args.self.now.parts { harts = kept } })
-    (sym (heard-quiet c.args.self.now.parts.harts c.args.hart (c.requires.quiet (sym (ap (λ (m : Held). m.waiting) c.self.view_is) ∙ c.if-self.false))))
+    (sym (heard-quiet c.args.self.now.parts.harts c.args.hart
+    (c.requires.quiet (sym (ap (λ (m : Held). m.waiting) c.self.view_is) ∙ c.if-self.false))))
 
 pub returns-else-self-clause-all : goal.returns-else-self-clause-all
 returns-else-self-clause-all g c =
-    all-quiet c.args.self.now.parts.harts c.args.hart (c.requires.quiet (sym (ap (λ (m : Held). m.waiting) c.self.view_is) ∙ c.if-self.false))
+    all-quiet c.args.self.now.parts.harts c.args.hart (c.requires.quiet (sym (ap (λ (m : Held). m.waiting) c.self.view_is)
+    ∙ c.if-self.false))
 
 pub hear-requires : goal.hear-requires
 hear-requires g c = (

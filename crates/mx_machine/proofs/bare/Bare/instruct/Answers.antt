@@ -23,16 +23,20 @@ returns-clause-after g c =
     let t = old.checker.tables in
     let x = hart_among c.self.inside.harts c.args.hart in
     let a : HartBus g.row.T.Denot g.row.N = record { supervisor = old; hart = c.args.hart; domain = c.domain-self-inside.result } in
-    let ts : List Touch = fetch_touch x.pc ∷ touches_of (fetched (perm_from (p.size t) (p.maps t) c.domain-self-inside.result) old.ram x.regs x.pc) in
+    let ts : List Touch = fetch_touch x.pc ∷ touches_of (fetched (perm_from (p.size t) (p.maps t) c.domain-self-inside.result) old.ram
+    x.regs x.pc) in
     let s : AreTouched {T = g.row.T.Denot} {N = g.row.N} p.kind p.maps p.size p.limits p.lookups g.row.N a ts c.instruct.new.bus =
-    are-touched {T = g.row.T.Denot} {N = g.row.N} p.kind p.maps p.size p.limits p.lookups g.row.N ts a c.instruct.new.bus c.instruct.ensures.ran.touched.each in
+    are-touched {T = g.row.T.Denot} {N = g.row.N} p.kind p.maps p.size p.limits p.lookups g.row.N ts a c.instruct.new.bus
+    c.instruct.ensures.ran.touched.each in
     let v = held_of p c.self.inside in
     let h = c.args.hart in
     let r = c.args.returns in
     let perm = perm_from (p.size t) (p.maps t) c.domain-self-inside.result in
-    touched-held v (parts_of p c.instruct.new.bus.supervisor) _ _ _ _ refl refl s.maps_same s.size_same s.limit_same s.owners s.gates s.heaps s.harts c.instruct.ensures.ran.left
+    touched-held v (parts_of p c.instruct.new.bus.supervisor) _ _ _ _ refl refl s.tables.same_maps s.tables.same_size s.tables.same_limit
+    s.owners s.gates s.heaps s.harts c.instruct.ensures.ran.left
     (c.instruct.ensures.after
-    ∙ ap (λ (o : Outcome). stepped h (instructed (regs_after perm old.ram x.regs x.pc r (fetched perm old.ram x.regs x.pc)) o) v.harts) c.instruct.ensures.ran.answered)
+    ∙ ap (λ (o : Outcome). stepped h (instructed (regs_after perm old.ram x.regs x.pc r (fetched perm old.ram x.regs x.pc)) o) v.harts)
+    c.instruct.ensures.ran.answered)
     ∙ ap (λ (d : ℕ). instructed_in v h r d) c.domain-self-inside.ensures
     ∙ ap (λ (m : Held). after_instruction h r m) c.self.view_is
 

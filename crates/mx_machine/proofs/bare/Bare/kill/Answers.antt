@@ -8,11 +8,13 @@ use Rattle.mx_machine.proofs.bare.Bare.kill.Goals.{else-area-via-then-area+else-
 pub returns-else-area : goal.returns-else-area
 returns-else-area g c = elim c.else-area.branch [
   | else-area-via-then-area+else-cause-ne-DEAD w ↦
-      let k : (area_of c.self.inside.stacks c.args.domain).kills ≡ true = ap (λ (a : StackArea). a.kills) (sym c.area.ensures) ∙ w.if-area.true in
+      let k : (area_of c.self.inside.stacks c.args.domain).kills ≡ true = ap (λ (a : StackArea). a.kills) (sym c.area.ensures)
+      ∙ w.if-area.true in
       let e : (c.args.cause == 20) ≡ true = eq-eqb c.args.cause 20 w.if-cause-ne-DEAD.false in
       rw (← c.self.view_is) (rw (k, e) refl)
   | else-area-via-else-area w ↦
-      let k : (area_of c.self.inside.stacks c.args.domain).kills ≡ false = ap (λ (a : StackArea). a.kills) (sym c.area.ensures) ∙ w.if-area.false in
+      let k : (area_of c.self.inside.stacks c.args.domain).kills ≡ false = ap (λ (a : StackArea). a.kills) (sym c.area.ensures)
+      ∙ w.if-area.false in
       rw (← c.self.view_is) (rw k refl)
 ]
 

@@ -13,7 +13,11 @@ returns g c =
     let b = c.self.inside in
     let v = held_of p b in
     let h = c.args.hart in
-    ap (λ k. held_of p (record b { bus = record b.bus { supervisor = record b.bus.supervisor { checker = k } }; harts = c.go_back.new.self })) c.leave_domain.ensures
+    ap (λ k. held_of p (record b {
+      bus = record b.bus { supervisor = record b.bus.supervisor { checker = k } };
+      harts =
+          c.go_back.new.self;
+    })) c.leave_domain.ensures
     ∙ ap (λ (hs : List Hart). with_kept h leaves_domain (record v { harts = hs })) c.go_back.ensures
     ∙ ap (λ (m : Held). returned h c.args.rd m) c.self.view_is
 

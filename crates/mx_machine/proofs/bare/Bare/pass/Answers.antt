@@ -31,9 +31,11 @@ returns-then-link-ne0-clause-made g c =
     let m = c.args.self.now in
     let h = c.args.hart in
     let link = c.link-link.result in
-    let el : link ≡ reg (hart_among m.harts h).regs 1 = c.link-link.ensures ∙ ap (λ (n : Held). reg (hart_among n.harts h).regs 1) c.self.view_is in
+    let el : link ≡ reg (hart_among m.harts h).regs 1 = c.link-link.ensures
+    ∙ ap (λ (n : Held). reg (hart_among n.harts h).regs 1) c.self.view_is in
     made-moved m _ _ _ _ _ _ _ refl refl
-    (sym (gate-crooked m h c.args.target link c.requires.run c.requires.target el (ne_eqb (link % 4) 0 c.if-link-ne0.true))) c.trap.ensures.made
+    (sym (gate-crooked m h c.args.target link c.requires.run c.requires.target el (ne_eqb (link % 4) 0 c.if-link-ne0.true)))
+    c.trap.ensures.made
 
 pub returns-then-link-ne0-clause-fits : goal.returns-then-link-ne0-clause-fits
 returns-then-link-ne0-clause-fits g c = c.trap.ensures.fits
@@ -49,11 +51,14 @@ returns-then-is_dead-clause-made g c =
     let m = c.args.self.now in
     let h = c.args.hart in
     let link = c.link-link.result in
-    let el : link ≡ reg (hart_among m.harts h).regs 1 = c.link-link.ensures ∙ ap (λ (n : Held). reg (hart_among n.harts h).regs 1) c.self.view_is in
+    let el : link ≡ reg (hart_among m.harts h).regs 1 = c.link-link.ensures
+    ∙ ap (λ (n : Held). reg (hart_among n.harts h).regs 1) c.self.view_is in
     made-moved m (with_step h (goes (slice_set (hart_among m.harts h).regs 10 (fault_answer 20)) link) m) _ _ _ _ _ _
-    (sym (rw c.go_with.ensures (ap (λ (n : Held). with_step h (goes (slice_set (hart_among n.harts h).regs 10 (fault_answer 20)) link) n) c.self.view_is)))
+    (sym (rw c.go_with.ensures (ap (λ (n : Held). with_step h (goes (slice_set (hart_among n.harts h).regs 10 (fault_answer 20)) link) n)
+    c.self.view_is)))
     (sym c.requires.empty)
-    (sym (gate-bounces m h c.args.target link c.requires.run c.requires.target el (eq-eqb (link % 4) 0 c.if-link-ne0.false) (sym c.is_dead.ensures ∙ c.if-is_dead.true)))
+    (sym (gate-bounces m h c.args.target link c.requires.run c.requires.target el (eq-eqb (link % 4) 0 c.if-link-ne0.false)
+    (sym c.is_dead.ensures ∙ c.if-is_dead.true)))
     (made-bounce m h link c.requires.run el)
 
 pub returns-then-is_dead-clause-fits : goal.returns-then-is_dead-clause-fits
@@ -62,7 +67,8 @@ returns-then-is_dead-clause-fits g c =
     let h = c.args.hart in
     let link = c.link-link.result in
     subst (λ (n : Held). Fits n)
-    (sym (rw c.go_with.ensures (ap (λ (n : Held). with_step h (goes (slice_set (hart_among n.harts h).regs 10 (fault_answer 20)) link) n) c.self.view_is)))
+    (sym (rw c.go_with.ensures (ap (λ (n : Held). with_step h (goes (slice_set (hart_among n.harts h).regs 10 (fault_answer 20)) link) n)
+    c.self.view_is)))
     (fits-bounce m h link (fault_answer 20) c.requires.run)
 
 pub depth-requires : goal.depth-requires
@@ -79,12 +85,15 @@ returns-then-depth-ge-FRAMES-clause-made g c =
     let m = c.args.self.now in
     let h = c.args.hart in
     let link = c.link-link.result in
-    let el : link ≡ reg (hart_among m.harts h).regs 1 = c.link-link.ensures ∙ ap (λ (n : Held). reg (hart_among n.harts h).regs 1) c.self.view_is in
+    let el : link ≡ reg (hart_among m.harts h).regs 1 = c.link-link.ensures
+    ∙ ap (λ (n : Held). reg (hart_among n.harts h).regs 1) c.self.view_is in
     let pc : c.pc-pc.result ≡ (hart_among m.harts h).pc = c.pc-pc.ensures ∙ ap (λ (n : Held). (hart_among n.harts h).pc) c.self.view_is in
-    let depth : c.depth.result ≡ length (hart_among m.harts h).frames = c.depth.ensures ∙ ap (λ (n : Held). length (hart_among n.harts h).frames) c.self.view_is in
+    let depth : c.depth.result ≡ length (hart_among m.harts h).frames = c.depth.ensures
+    ∙ ap (λ (n : Held). length (hart_among n.harts h).frames) c.self.view_is in
     made-moved m _ _ _ _ _ _ _ refl refl
     (sym (gate-full m h c.args.target link c.pc-pc.result c.requires.run c.requires.target el (eq-eqb (link % 4) 0 c.if-link-ne0.false)
-    (sym c.is_dead.ensures ∙ c.if-is_dead.false) (full c.depth.result (length (hart_among m.harts h).frames) depth c.if-depth-ge-FRAMES.true) pc))
+    (sym c.is_dead.ensures ∙ c.if-is_dead.false) (full c.depth.result (length (hart_among m.harts h).frames) depth
+    c.if-depth-ge-FRAMES.true) pc))
     c.trap-then-depth-ge-FRAMES.ensures.made
 
 pub returns-then-depth-ge-FRAMES-clause-fits : goal.returns-then-depth-ge-FRAMES-clause-fits
@@ -97,7 +106,8 @@ enter-requires g c = (
       let m = c.args.self.now in
       let h = c.args.hart in
       let a = c.requires.run.act in
-      let depth : c.depth.result ≡ length (hart_among m.harts h).frames = c.depth.ensures ∙ ap (λ (n : Held). length (hart_among n.harts h).frames) c.self.view_is in (
+      let depth : c.depth.result ≡ length (hart_among m.harts h).frames = c.depth.ensures
+      ∙ ap (λ (n : Held). length (hart_among n.harts h).frames) c.self.view_is in (
         a.there,
         (
           kept-there m h a,
@@ -117,12 +127,16 @@ returns-clause-made g c =
     let m = c.args.self.now in
     let h = c.args.hart in
     let link = c.link-link.result in
-    let el : link ≡ reg (hart_among m.harts h).regs 1 = c.link-link.ensures ∙ ap (λ (n : Held). reg (hart_among n.harts h).regs 1) c.self.view_is in
-    let depth : c.depth.result ≡ length (hart_among m.harts h).frames = c.depth.ensures ∙ ap (λ (n : Held). length (hart_among n.harts h).frames) c.self.view_is in
+    let el : link ≡ reg (hart_among m.harts h).regs 1 = c.link-link.ensures
+    ∙ ap (λ (n : Held). reg (hart_among n.harts h).regs 1) c.self.view_is in
+    let depth : c.depth.result ≡ length (hart_among m.harts h).frames = c.depth.ensures
+    ∙ ap (λ (n : Held). length (hart_among n.harts h).frames) c.self.view_is in
     made-moved m (crossed h c.args.target m) _ _ _ _ _ _ (sym c.enter.ensures) (sym c.requires.empty)
     (sym (gate-crosses m h c.args.target link c.requires.run c.requires.target el (eq-eqb (link % 4) 0 c.if-link-ne0.false)
-    (sym c.is_dead.ensures ∙ c.if-is_dead.false) (room c.depth.result (length (hart_among m.harts h).frames) depth c.if-depth-ge-FRAMES.false)))
+    (sym c.is_dead.ensures ∙ c.if-is_dead.false) (room c.depth.result (length (hart_among m.harts h).frames) depth
+    c.if-depth-ge-FRAMES.false)))
     (made-cross m h c.args.target c.requires.run c.requires.target)
 
 pub returns-clause-fits : goal.returns-clause-fits
-returns-clause-fits g c = subst (λ (n : Held). Fits n) (sym c.enter.ensures) (fits-cross c.args.self.now c.args.hart c.args.target c.requires.run)
+returns-clause-fits g c = subst (λ (n : Held). Fits n) (sym c.enter.ensures)
+    (fits-cross c.args.self.now c.args.hart c.args.target c.requires.run)

@@ -24,9 +24,19 @@ word-word-requires g c =
     let h = c.args.hart in
     let f = c.requires.fits in
     let r = c.requires.alive in
-    let pc-is : c.pc-pc.result ≡ (hart_among m.harts h).pc = c.pc-pc.ensures ∙ ap (λ (k : Held). (hart_among k.harts h).pc) c.self.view_is in
-    let at-pc : IsOpen m h c.pc-pc.result = c.requires.window.each c.pc-pc.result (sym c.if-not-holds.ensures) in
-    (assumption c, (f.sound.ram, (hand-inside m.parts.size c.pc-pc.result (kept_at m.parts.harts h).cache at-pc.at_hand, rw pc-is c.requires.aligned)))
+    let pc-is : c.pc-pc.result ≡ (hart_among m.harts h).pc = c.pc-pc.ensures
+    ∙ ap (λ (k : Held). (hart_among k.harts h).pc) c.self.view_is in
+    let at-pc : IsOpen m h c.pc-pc.result = c.requires.window.each c.pc-pc.result (sym c.if-not-holds.ensures) in (
+      assumption c,
+      (
+        f.sound.ram,
+        (
+          hand-inside m.parts.size c.pc-pc.result (kept_at m.parts.harts h).cache at-pc.at_hand,
+          rw pc-is
+              c.requires.aligned,
+        ),
+      ),
+    )
 
 pub carry_out-requires : goal.carry_out-requires
 carry_out-requires g c =
@@ -35,7 +45,8 @@ carry_out-requires g c =
     let h = c.args.hart in
     let f = c.requires.fits in
     let r = c.requires.alive in
-    let pc-is : c.pc-pc.result ≡ (hart_among m.harts h).pc = c.pc-pc.ensures ∙ ap (λ (k : Held). (hart_among k.harts h).pc) c.self.view_is in
+    let pc-is : c.pc-pc.result ≡ (hart_among m.harts h).pc = c.pc-pc.ensures
+    ∙ ap (λ (k : Held). (hart_among k.harts h).pc) c.self.view_is in
     let at-pc : IsOpen m h c.pc-pc.result = c.requires.window.each c.pc-pc.result (sym c.if-not-holds.ensures) in
     let o : IsOpen m h (hart_among m.harts h).pc = subst (λ (a : ℕ). IsOpen m h a) pc-is at-pc in
     let inside = c.self.inside in
@@ -50,8 +61,10 @@ carry_out-requires g c =
     let n : Held = record v { harts = c.inst.new.self } in
     let is : n ≡ m = ap (λ (hs : List Hart). record v { harts = hs }) c.inst.ensures.same ∙ c.self.view_is in
     let inst = c.in-Some.inst in
-    let known : quick (load_at m.parts.ram c.pc-pc.result 4) ≡ Some inst = sym (ap quick c.word-word.ensures) ∙ sym c.in-Some.ensures.inst in
-    let there : quick (load_at m.parts.ram (hart_among m.harts h).pc 4) ≡ Some inst = sym (ap (λ (a : ℕ). quick (load_at m.parts.ram a 4)) pc-is) ∙ known in
+    let known : quick (load_at m.parts.ram c.pc-pc.result 4) ≡ Some inst = sym (ap quick c.word-word.ensures)
+    ∙ sym c.in-Some.ensures.inst in
+    let there : quick (load_at m.parts.ram (hart_among m.harts h).pc 4) ≡ Some inst =
+    sym (ap (λ (a : ℕ). quick (load_at m.parts.ram a 4)) pc-is) ∙ known in
     let run = open-runs m h f r c.requires.domain o.quiet in (
       assumption c,
       (
@@ -66,7 +79,11 @@ carry_out-requires g c =
                 subst (λ (k : Held). (hart_among k.harts h).pc % 4 ≡ 0) (sym is) c.requires.aligned,
                 (
                   subst (λ (k : Held). IsAtHand k.parts.size (kept_at k.parts.harts h).cache (hart_among k.harts h).pc) (sym is) o.at_hand,
-                  (subst (λ (k : Held). quick (load_at k.parts.ram (hart_among k.harts h).pc 4) ≡ Some inst) (sym is) there, c.in-Some.ensures.valid),
+                  (
+                    subst (λ (k : Held). quick (load_at k.parts.ram (hart_among k.harts h).pc 4) ≡ Some inst) (sym is)
+                        there,
+                    c.in-Some.ensures.valid,
+                  ),
                 ),
               ),
             ),
@@ -82,7 +99,8 @@ returns-in-Some g c =
     let h = c.args.hart in
     let f = c.requires.fits in
     let r = c.requires.alive in
-    let pc-is : c.pc-pc.result ≡ (hart_among m.harts h).pc = c.pc-pc.ensures ∙ ap (λ (k : Held). (hart_among k.harts h).pc) c.self.view_is in
+    let pc-is : c.pc-pc.result ≡ (hart_among m.harts h).pc = c.pc-pc.ensures
+    ∙ ap (λ (k : Held). (hart_among k.harts h).pc) c.self.view_is in
     let at-pc : IsOpen m h c.pc-pc.result = c.requires.window.each c.pc-pc.result (sym c.if-not-holds.ensures) in
     let o : IsOpen m h (hart_among m.harts h).pc = subst (λ (a : ℕ). IsOpen m h a) pc-is at-pc in
     let inside = c.self.inside in
@@ -97,14 +115,17 @@ returns-in-Some g c =
     let n : Held = record v { harts = c.inst.new.self } in
     let is : n ≡ m = ap (λ (hs : List Hart). record v { harts = hs }) c.inst.ensures.same ∙ c.self.view_is in
     let inst = c.in-Some.inst in
-    let known : quick (load_at m.parts.ram c.pc-pc.result 4) ≡ Some inst = sym (ap quick c.word-word.ensures) ∙ sym c.in-Some.ensures.inst in
-    let there : quick (load_at m.parts.ram (hart_among m.harts h).pc 4) ≡ Some inst = sym (ap (λ (a : ℕ). quick (load_at m.parts.ram a 4)) pc-is) ∙ known in
+    let known : quick (load_at m.parts.ram c.pc-pc.result 4) ≡ Some inst = sym (ap quick c.word-word.ensures)
+    ∙ sym c.in-Some.ensures.inst in
+    let there : quick (load_at m.parts.ram (hart_among m.harts h).pc 4) ≡ Some inst =
+    sym (ap (λ (a : ℕ). quick (load_at m.parts.ram a 4)) pc-is) ∙ known in
     let e = c.carry_out.ensures in
     record {
       opened = o;
       inst = inst;
       known = there;
-      effect = subst (λ (k : Held). effect_for k (hart_among k.harts h) ≡ effect inst (hart_among k.harts h).regs (hart_among k.harts h).pc) is e.effect;
+      effect = subst (λ (k : Held). effect_for k (hart_among k.harts h) ≡ effect inst (hart_among k.harts h).regs (hart_among k.harts h).pc)
+          is e.effect;
       answered = e.outcome ∙ ap (λ (k : Held). outcome_for k h false) is;
       after = e.after ∙ ap (λ (k : Held). after_unfetched h k) is;
       caused = e.cause;

@@ -37,7 +37,11 @@ row_inside-row-requires g c =
         i.whole,
         (
           i.alive c.rows-test.true,
-          (few-rest c.rows.self.steps c.args.self.now.steps c.args.made c.rows.ran c.args.room 18446744073709551616 i.counted c.requires.upto i.upto c.requires.few, i.window),
+          (
+            few-rest c.rows.self.steps c.args.self.now.steps c.args.made c.rows.ran c.args.room 18446744073709551616 i.counted
+                c.requires.upto i.upto c.requires.few,
+            i.window,
+          ),
         ),
       ),
     )
@@ -49,7 +53,9 @@ stop-last-requires g c =
     let now = c.row_inside-row.new.self in
     let h = c.args.hart in
     let o = c.in-Some.outcome in
-    let row : IsRow m h c.row_inside-row.result.made c.rows.window now (Some o) = subst (λ (e : Option Outcome). IsRow m h c.row_inside-row.result.made c.rows.window now e) c.in-Some.is c.row_inside-row.ensures.row in
+    let row : IsRow m h c.row_inside-row.result.made c.rows.window now (Some o) =
+    subst (λ (e : Option Outcome). IsRow m h c.row_inside-row.result.made c.rows.window now e) c.in-Some.is c.row_inside-row.ensures.row
+    in
     let caused : HasCause o = subst (λ (e : Option Outcome). IfSome e HasCause) c.in-Some.is c.row_inside-row.ensures.cause in
     (assumption c, (ends-runs row.0 now h o row.1.1, (caused, c.rows.invariant.empty)))
 
@@ -60,10 +66,13 @@ returns-in-Some-clause-row g c = λ f most below r.
     let h = c.args.hart in
     let o = c.in-Some.outcome in
     let n = c.row_inside-row.result.made in
-    let row : IsRow m h n c.rows.window now (Some o) = subst (λ (e : Option Outcome). IsRow m h n c.rows.window now e) c.in-Some.is c.row_inside-row.ensures.row in
-    let left : n < c.args.room - c.rows.ran = subst (λ (e : Option Outcome). IfSome e (λ x. n < c.args.room - c.rows.ran)) c.in-Some.is c.row_inside-row.ensures.left in
+    let row : IsRow m h n c.rows.window now (Some o) = subst (λ (e : Option Outcome). IsRow m h n c.rows.window now e) c.in-Some.is
+    c.row_inside-row.ensures.row in
+    let left : n < c.args.room - c.rows.ran = subst (λ (e : Option Outcome). IfSome e (λ x. n < c.args.room - c.rows.ran)) c.in-Some.is
+    c.row_inside-row.ensures.left in
     let upto : c.rows.ran + n < most = less-less (c.rows.ran + n) c.args.room most (below-left n c.rows.ran c.args.room left) below in
-    run-stretch f h (c.rows.ran + n) row.0 c.stop-last.new.self c.stop-last.new.out c.stop-last.result (row.1.0.run f c.rows.ran (c.rows.invariant.run f r)) (c.stop-last.ensures.made row.0 row.1.1)
+    run-stretch f h (c.rows.ran + n) row.0 c.stop-last.new.self c.stop-last.new.out c.stop-last.result
+    (row.1.0.run f c.rows.ran (c.rows.invariant.run f r)) (c.stop-last.ensures.made row.0 row.1.1)
     most upto (λ ran. absurd (c.stop-last.ensures.ended row.1.1.stops ran))
 
 pub returns-in-Some-clause-whole : goal.returns-in-Some-clause-whole
@@ -72,7 +81,9 @@ returns-in-Some-clause-whole g c =
     let now = c.row_inside-row.new.self in
     let h = c.args.hart in
     let o = c.in-Some.outcome in
-    let row : IsRow m h c.row_inside-row.result.made c.rows.window now (Some o) = subst (λ (e : Option Outcome). IsRow m h c.row_inside-row.result.made c.rows.window now e) c.in-Some.is c.row_inside-row.ensures.row in
+    let row : IsRow m h c.row_inside-row.result.made c.rows.window now (Some o) =
+    subst (λ (e : Option Outcome). IsRow m h c.row_inside-row.result.made c.rows.window now e) c.in-Some.is c.row_inside-row.ensures.row
+    in
     whole-is row.0 c.stop-last.new.self h c.stop-last.new.out c.stop-last.result (c.stop-last.ensures.made row.0 row.1.1)
     c.turns_keep_validity.ensures c.spans_are_coherent.ensures.turn row.1.0.whole c.stop-last.ensures.fits
 
@@ -84,7 +95,8 @@ returns-then-ran-room-clause-row g c =
     let now = c.row_inside-row.new.self in
     let h = c.args.hart in
     let n = c.row_inside-row.result.made in
-    let row : IsRowTo m h n c.rows.window now = subst (λ (e : Option Outcome). IsRow m h n c.rows.window now e) c.in_default.is c.row_inside-row.ensures.row in
+    let row : IsRowTo m h n c.rows.window now = subst (λ (e : Option Outcome). IsRow m h n c.rows.window now e) c.in_default.is
+    c.row_inside-row.ensures.row in
     (i.empty, λ f r. subst (λ (k : ℕ). HasRunOn f h k now) c.if-ran-room.true (row.run f c.rows.ran (i.run f r)))
 
 pub returns-then-ran-room-clause-whole : goal.returns-then-ran-room-clause-whole
@@ -94,7 +106,8 @@ returns-then-ran-room-clause-whole g c =
     let now = c.row_inside-row.new.self in
     let h = c.args.hart in
     let n = c.row_inside-row.result.made in
-    let row : IsRowTo m h n c.rows.window now = subst (λ (e : Option Outcome). IsRow m h n c.rows.window now e) c.in_default.is c.row_inside-row.ensures.row in
+    let row : IsRowTo m h n c.rows.window now = subst (λ (e : Option Outcome). IsRow m h n c.rows.window now e) c.in_default.is
+    c.row_inside-row.ensures.row in
     row.whole
 
 -- a turn outside
@@ -105,11 +118,24 @@ turn_outside-requires g c =
     let now = c.row_inside-row.new.self in
     let h = c.args.hart in
     let n = c.row_inside-row.result.made in
-    let row : IsRowTo m h n c.rows.window now = subst (λ (e : Option Outcome). IsRow m h n c.rows.window now e) c.in_default.is c.row_inside-row.ensures.row in
+    let row : IsRowTo m h n c.rows.window now = subst (λ (e : Option Outcome). IsRow m h n c.rows.window now e) c.in_default.is
+    c.row_inside-row.ensures.row in
     let upto : c.rows.ran + n ≤ c.args.room = upto-left n c.rows.ran c.args.room c.row_inside-row.ensures.upto i.upto in
     let below : c.rows.ran + n < c.args.room = below-but (c.rows.ran + n) c.args.room upto c.if-ran-room.false in
-    let counted = counted-on m.steps now.steps c.args.self.now.steps c.args.made c.rows.ran n i.counted row.counted in
-    (assumption c, (row.whole, (row.alive, (few-next now.steps c.args.self.now.steps c.args.made (c.rows.ran + n) c.args.room 18446744073709551616 counted below c.requires.few c.requires.upto, i.empty))))
+    let counted = counted-on m.steps now.steps c.args.self.now.steps c.args.made c.rows.ran n i.counted row.counted in (
+      assumption c,
+      (
+        row.whole,
+        (
+          row.alive,
+          (
+            few-next now.steps c.args.self.now.steps c.args.made (c.rows.ran + n) c.args.room
+                18446744073709551616 counted below c.requires.few c.requires.upto,
+            i.empty,
+          ),
+        ),
+      ),
+    )
 
 pub rows-preserved : goal.rows-preserved
 rows-preserved g c =
@@ -118,18 +144,22 @@ rows-preserved g c =
     let now = c.row_inside-row.new.self in
     let h = c.args.hart in
     let n = c.row_inside-row.result.made in
-    let row : IsRowTo m h n c.rows.window now = subst (λ (e : Option Outcome). IsRow m h n c.rows.window now e) c.in_default.is c.row_inside-row.ensures.row in
+    let row : IsRowTo m h n c.rows.window now = subst (λ (e : Option Outcome). IsRow m h n c.rows.window now e) c.in_default.is
+    c.row_inside-row.ensures.row in
     let upto : c.rows.ran + n ≤ c.args.room = upto-left n c.rows.ran c.args.room c.row_inside-row.ensures.upto i.upto in
     let below : c.rows.ran + n < c.args.room = below-but (c.rows.ran + n) c.args.room upto c.if-ran-room.false in
     let counted = counted-on m.steps now.steps c.args.self.now.steps c.args.made c.rows.ran n i.counted row.counted in
     let k = c.turn_outside.new.self in
     let on = c.turn_outside.ensures.on c.in-On.is in
-    let made = subst (λ (going : Going). IsMade now k c.turn_outside.new.out (kind_of going) (flat_made (meaning now) h)) c.in-On.is c.turn_outside.ensures.made in
+    let made = subst (λ (going : Going). IsMade now k c.turn_outside.new.out (kind_of going) (flat_made (meaning now) h)) c.in-On.is
+    c.turn_outside.ensures.made in
     record {
       run = λ f r. run-more f h (c.rows.ran + n) now k c.turn_outside.new.out T.Ran (row.run f c.rows.ran (i.run f r)) made
           c.turns_keep_validity.ensures c.spans_are_coherent.ensures.turn c.turn_outside.ensures.fits refl;
-      whole = whole-is now k h c.turn_outside.new.out T.Ran made c.turns_keep_validity.ensures c.spans_are_coherent.ensures.turn row.whole c.turn_outside.ensures.fits;
-      counted = counted-on now.steps k.steps c.args.self.now.steps c.args.made (c.rows.ran + n) 1 counted (turn-steps now k h c.turn_outside.new.out T.Ran made);
+      whole = whole-is now k h c.turn_outside.new.out T.Ran made c.turns_keep_validity.ensures c.spans_are_coherent.ensures.turn row.whole
+          c.turn_outside.ensures.fits;
+      counted = counted-on now.steps k.steps c.args.self.now.steps c.args.made (c.rows.ran + n) 1 counted
+          (turn-steps now k h c.turn_outside.new.out T.Ran made);
       empty = on.1;
       alive = λ more. on.0;
       window = c.turn_outside.ensures.within c.in-On.is;
@@ -143,12 +173,15 @@ returns-in-Ended-clause-row g c = λ f most beyond r.
     let now = c.row_inside-row.new.self in
     let h = c.args.hart in
     let n = c.row_inside-row.result.made in
-    let row : IsRowTo m h n c.rows.window now = subst (λ (e : Option Outcome). IsRow m h n c.rows.window now e) c.in_default.is c.row_inside-row.ensures.row in
+    let row : IsRowTo m h n c.rows.window now = subst (λ (e : Option Outcome). IsRow m h n c.rows.window now e) c.in_default.is
+    c.row_inside-row.ensures.row in
     let upto : c.rows.ran + n ≤ c.args.room = upto-left n c.rows.ran c.args.room c.row_inside-row.ensures.upto i.upto in
     let below : c.rows.ran + n < c.args.room = below-but (c.rows.ran + n) c.args.room upto c.if-ran-room.false in
     let counted = counted-on m.steps now.steps c.args.self.now.steps c.args.made c.rows.ran n i.counted row.counted in
-    run-stretch f h (c.rows.ran + n) now c.turn_outside.new.self c.turn_outside.new.out c.in-Ended.last (row.run f c.rows.ran (i.run f r)) c.in-Ended.ensures.made
-    most (less-less (c.rows.ran + n) c.args.room most below beyond) (λ ran. let on : G.Ended c.in-Ended.last ≡ G.On = c.in-Ended.ensures.ran ran in absurd (let z : ⊥ = cc in z))
+    run-stretch f h (c.rows.ran + n) now c.turn_outside.new.self c.turn_outside.new.out c.in-Ended.last (row.run f c.rows.ran (i.run f r))
+    c.in-Ended.ensures.made
+    most (less-less (c.rows.ran + n) c.args.room most below beyond) (λ ran. let on : G.Ended c.in-Ended.last ≡ G.On =
+    c.in-Ended.ensures.ran ran in absurd (let z : ⊥ = cc in z))
 
 pub returns-in-Ended-clause-whole : goal.returns-in-Ended-clause-whole
 returns-in-Ended-clause-whole g c =
@@ -157,7 +190,8 @@ returns-in-Ended-clause-whole g c =
     let now = c.row_inside-row.new.self in
     let h = c.args.hart in
     let n = c.row_inside-row.result.made in
-    let row : IsRowTo m h n c.rows.window now = subst (λ (e : Option Outcome). IsRow m h n c.rows.window now e) c.in_default.is c.row_inside-row.ensures.row in
+    let row : IsRowTo m h n c.rows.window now = subst (λ (e : Option Outcome). IsRow m h n c.rows.window now e) c.in_default.is
+    c.row_inside-row.ensures.row in
     whole-is now c.turn_outside.new.self h c.turn_outside.new.out c.in-Ended.last c.in-Ended.ensures.made
     c.turns_keep_validity.ensures c.spans_are_coherent.ensures.turn row.whole c.in-Ended.ensures.fits
 

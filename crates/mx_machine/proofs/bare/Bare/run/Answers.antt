@@ -31,7 +31,8 @@ returns-in-None g c =
     let alive = sym c.is_dead.ensures ∙ c.if-is_dead.false in
     let plain = acts-plain m h c.domain-domain.result c.pc-pc.result c.requires.run d p alive (sym c.in-None.ensures) in
     record {
-      made = rw c.kind.ensures (subst (λ e. IsMade m c.execute.new.self c.execute.new.out (kind_of c.execute.result) e) (sym plain.0) c.execute.ensures.made);
+      made = rw c.kind.ensures (subst (λ e. IsMade m c.execute.new.self c.execute.new.out (kind_of c.execute.result) e) (sym plain.0)
+          c.execute.ensures.made);
       fits = c.execute.ensures.fits;
     }
 
@@ -43,7 +44,8 @@ returns-then-is_dead g c =
     let p = c.pc-pc.ensures ∙ ap (λ (m : Held). (hart_among m.harts h).pc) c.self.view_is in
     let dead = ap (λ (n : ℕ). get_or m.dead n false) (sym d) ∙ sym c.is_dead.ensures ∙ c.if-is_dead.true in
     record {
-      made = subst (λ e. IsMade m c.trap.new.self c.trap.new.out c.trap.result e) (sym (acts-dead m h c.pc-pc.result c.requires.run dead p)) c.trap.ensures.made;
+      made = subst (λ e. IsMade m c.trap.new.self c.trap.new.out c.trap.result e) (sym (acts-dead m h c.pc-pc.result c.requires.run dead p))
+          c.trap.ensures.made;
       fits = c.trap.ensures.fits;
     }
 

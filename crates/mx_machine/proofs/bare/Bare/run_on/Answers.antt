@@ -23,10 +23,14 @@ turns-init g c = record {
 pub turn_on-requires : goal.turn_on-requires
 turn_on-requires g c =
     let i = c.turns.invariant in
-    let within : c.min-first.result ≤ c.before_last-room.result = least-le c.before_last-room.result 4 c.min-first.result c.min-first.ensures in
-    let inside : c.turns.ran < c.before_last-room.result = less-le c.turns.ran c.min-first.result c.before_last-room.result c.turns-test.true within in
-    let below : c.turns.ran < c.args.most = less-less c.turns.ran c.before_last-room.result c.args.most inside c.before_last-room.ensures.below in
-    let few = few-last c.turns.self.steps c.args.self.now.steps c.turns.ran c.args.most 18446744073709551616 i.run.steps below c.requires.few in
+    let within : c.min-first.result ≤ c.before_last-room.result =
+    least-le c.before_last-room.result 4 c.min-first.result c.min-first.ensures in
+    let inside : c.turns.ran < c.before_last-room.result = less-le c.turns.ran c.min-first.result c.before_last-room.result
+    c.turns-test.true within in
+    let below : c.turns.ran < c.args.most = less-less c.turns.ran c.before_last-room.result c.args.most inside
+    c.before_last-room.ensures.below in
+    let few = few-last c.turns.self.steps c.args.self.now.steps c.turns.ran c.args.most 18446744073709551616 i.run.steps below
+    c.requires.few in
     (assumption c, (i.run.whole, (i.alive inside, (few, i.empty))))
 
 pub turns-preserved : goal.turns-preserved
@@ -35,7 +39,8 @@ turns-preserved g c =
     let k = c.turn_on.new.self in
     let h = c.args.hart in
     let on = c.turn_on.ensures.on c.in-On.is in
-    let made = subst (λ (going : Going). IsMade m k c.turn_on.new.out (kind_of going) (flat_made (meaning m) h)) c.in-On.is c.turn_on.ensures.made in
+    let made = subst (λ (going : Going). IsMade m k c.turn_on.new.out (kind_of going) (flat_made (meaning m) h)) c.in-On.is
+    c.turn_on.ensures.made in
     record {
       run = run-more (meaning c.args.self.now) h c.turns.ran m k c.turn_on.new.out T.Ran c.turns.invariant.run made
           c.turns_keep_validity.ensures c.spans_are_coherent.ensures.turn c.turn_on.ensures.fits refl;
@@ -46,9 +51,12 @@ turns-preserved g c =
 -- a turn ended the run
 pub returns-in-Ended-clause-stretch : goal.returns-in-Ended-clause-stretch
 returns-in-Ended-clause-stretch g c =
-    let within : c.min-first.result ≤ c.before_last-room.result = least-le c.before_last-room.result 4 c.min-first.result c.min-first.ensures in
-    let below : c.turns.ran < c.args.most = less-less c.turns.ran c.before_last-room.result c.args.most (less-le c.turns.ran c.min-first.result c.before_last-room.result c.turns-test.true within) c.before_last-room.ensures.below in
-    run-stretch (meaning c.args.self.now) c.args.hart c.turns.ran c.turns.self c.turn_on.new.self c.turn_on.new.out c.in-Ended.last c.turns.invariant.run c.in-Ended.ensures.made
+    let within : c.min-first.result ≤ c.before_last-room.result =
+    least-le c.before_last-room.result 4 c.min-first.result c.min-first.ensures in
+    let below : c.turns.ran < c.args.most = less-less c.turns.ran c.before_last-room.result c.args.most
+    (less-le c.turns.ran c.min-first.result c.before_last-room.result c.turns-test.true within) c.before_last-room.ensures.below in
+    run-stretch (meaning c.args.self.now) c.args.hart c.turns.ran c.turns.self c.turn_on.new.self c.turn_on.new.out c.in-Ended.last
+    c.turns.invariant.run c.in-Ended.ensures.made
     c.args.most below (λ ran. let on : G.Ended c.in-Ended.last ≡ G.On = c.in-Ended.ensures.ran ran in absurd (let z : ⊥ = cc in z))
 
 pub returns-in-Ended-clause-whole : goal.returns-in-Ended-clause-whole
@@ -60,7 +68,8 @@ returns-in-Ended-clause-whole g c =
 pub more-requires : goal.more-requires
 more-requires g c =
     let all : c.turns.ran ≡ c.min-first.result = both-ways c.turns.ran c.min-first.result c.turns.auto.ran-end c.turns-test.false in
-    let upto : c.min-first.result ≤ c.before_last-room.result = least-le c.before_last-room.result 4 c.min-first.result c.min-first.ensures in
+    let upto : c.min-first.result ≤ c.before_last-room.result =
+    least-le c.before_last-room.result 4 c.min-first.result c.min-first.ensures in
     let r = c.turns.invariant.run in (
       assumption c,
       (
@@ -68,7 +77,8 @@ more-requires g c =
         (
           upto,
           (
-            few-left c.turns.self.steps c.args.self.now.steps c.turns.ran c.min-first.result c.before_last-room.result c.args.most 18446744073709551616 r.steps all upto c.before_last-room.ensures.below c.requires.few,
+            few-left c.turns.self.steps c.args.self.now.steps c.turns.ran c.min-first.result c.before_last-room.result c.args.most
+                18446744073709551616 r.steps all upto c.before_last-room.ensures.below c.requires.few,
             ((λ more. c.turns.invariant.alive (subst (λ (n : ℕ). n < c.before_last-room.result) (sym all) more)), c.turns.invariant.empty),
           ),
         ),
@@ -90,8 +100,14 @@ step-last-requires g c =
     let h = c.args.hart in
     let all : c.turns.ran ≡ c.min-first.result = both-ways c.turns.ran c.min-first.result c.turns.auto.ran-end c.turns-test.false in
     let run : HasRunOn f h c.min-first.result c.turns.self = subst (λ (n : ℕ). HasRunOn f h n c.turns.self) all c.turns.invariant.run in
-    let made : HasRunOn f h c.before_last-room.result c.more.new.self = c.in_default.ensures.row.1 f run in
-    (assumption c, (made.whole, few-last c.more.new.self.steps c.args.self.now.steps c.before_last-room.result c.args.most 18446744073709551616 made.steps c.before_last-room.ensures.below c.requires.few))
+    let made : HasRunOn f h c.before_last-room.result c.more.new.self = c.in_default.ensures.row.1 f run in (
+      assumption c,
+      (
+        made.whole,
+        few-last c.more.new.self.steps c.args.self.now.steps c.before_last-room.result c.args.most
+            18446744073709551616 made.steps c.before_last-room.ensures.below c.requires.few,
+      ),
+    )
 
 pub returns-clause-stretch : goal.returns-clause-stretch
 returns-clause-stretch g c =
@@ -107,7 +123,8 @@ returns-clause-stretch g c =
     let run : HasRunOn f h room m = c.in_default.ensures.row.1 f first in
     let kind = run-kind f h room m k events last run c.step-last.ensures.made in
     run-stretch f h room m k events last run c.step-last.ensures.made c.args.most c.before_last-room.ensures.below
-    (λ ran. c.before_last-room.ensures.all (ran-first c.args.self.now h room c.requires.whole c.before_last-room.ensures.alive (sym kind ∙ ran)))
+    (λ ran. c.before_last-room.ensures.all (ran-first c.args.self.now h room c.requires.whole c.before_last-room.ensures.alive (sym kind
+    ∙ ran)))
 
 pub returns-clause-whole : goal.returns-clause-whole
 returns-clause-whole g c =

@@ -20,9 +20,16 @@ returns-in-Running g c =
     let h = c.args.hart in
     let at : (hart_among m.harts h).progress ≡ G.Running =
     sym (ap (λ (n : Held). (hart_among n.harts h).progress) c.self.view_is) ∙ sym c.progress.ensures ∙ c.in-Running.is in
-    let d : c.domain.result ≡ (hart_among m.harts h).domain = c.domain.ensures ∙ ap (λ (n : Held). (hart_among n.harts h).domain) c.self.view_is in
-    let own : c.is_dead.result ≡ get_or m.dead (hart_among m.harts h).domain false = c.is_dead.ensures ∙ ap (λ (n : ℕ). get_or m.dead n false) d in (
-      λ live. record { there = hart-there m h c.requires.whole G.Running at refl; runs = at; alive = sym own ∙ not-true c.is_dead.result live },
+    let d : c.domain.result ≡ (hart_among m.harts h).domain = c.domain.ensures
+    ∙ ap (λ (n : Held). (hart_among n.harts h).domain) c.self.view_is in
+    let own : c.is_dead.result ≡ get_or m.dead (hart_among m.harts h).domain false = c.is_dead.ensures
+    ∙ ap (λ (n : ℕ). get_or m.dead n false) d in (
+      λ live. record {
+        there = hart-there m h c.requires.whole G.Running at refl;
+        runs = at;
+        alive = sym own
+            ∙ not-true c.is_dead.result live;
+      },
       λ alive. ap not (own ∙ alive.alive),
     )
 

@@ -19,7 +19,8 @@ returns-in-Halted g c =
     let at = sym (ap (λ (n : Held). (hart_among n.harts h).progress) c.self.view_is) ∙ sym c.progress.ensures ∙ c.in-Halted.is in
     record {
       made = subst (λ (n : Held). IsMade m (counted n) c.clear.new.out T.Idle (flat_made (meaning m) h)) (sym c.self.view_is)
-          (subst (λ (e : Events). IsMade m (counted m) e T.Idle (flat_made (meaning m) h)) (sym c.clear.ensures) (made-idle m h c.in-Halted.field-0 at));
+          (subst (λ (e : Events). IsMade m (counted m) e T.Idle (flat_made (meaning m) h)) (sym c.clear.ensures)
+          (made-idle m h c.in-Halted.field-0 at));
       fits = subst (λ (n : Held). Fits (counted n)) (sym c.self.view_is) (fits-counted m c.requires.whole.fits);
     }
 
@@ -78,7 +79,14 @@ run-requires g c =
       assumption c,
       (
         valid-now m h w G.Running at refl hears.new.self is,
-        (record { act = acts-now m h w G.Running at refl hears.new.self is hears.ensures.all; runs = stands-now m h w G.Running at refl hears.new.self is }, c.clear.ensures),
+        (
+          record {
+            act = acts-now m h w G.Running at refl hears.new.self is hears.ensures.all;
+            runs =
+                stands-now m h w G.Running at refl hears.new.self is;
+          },
+          c.clear.ensures,
+        ),
       ),
     )
 

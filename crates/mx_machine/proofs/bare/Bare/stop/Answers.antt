@@ -16,7 +16,17 @@ trap-requires g c =
     (assumption c, (c.requires.run, (omega (arith, caused), c.requires.empty)))
 
 pub go_back-requires : goal.go_back-requires
-go_back-requires g c = (assumption c, (c.requires.run, (subst (λ (o : Outcome). HasCause o) c.in-Back.is c.requires.cause, c.requires.empty)))
+go_back-requires g c = (
+  assumption c,
+  (
+    c.requires.run,
+    (
+      subst (λ (o : Outcome). HasCause o) c.in-Back.is
+          c.requires.cause,
+      c.requires.empty,
+    ),
+  ),
+)
 
 pub returns-in-Next-clause-made : goal.returns-in-Next-clause-made
 returns-in-Next-clause-made g c m e = absurd (subst (λ (o : Outcome). Stops o) c.in-Next.is e.stops)
@@ -57,4 +67,5 @@ returns-in-Back-clause-made g c m e =
     ends-made m now h o by c.go_back.new.self c.go_back.new.out c.go_back.result c.go_back.ensures.made
 
 pub returns-in-Back-clause-ended : goal.returns-in-Back-clause-ended
-returns-in-Back-clause-ended g c s ran = return-ended c.args.self.now c.args.hart c.in-Back.rd c.in-Back.target (sym c.go_back.ensures.made.kind ∙ ran)
+returns-in-Back-clause-ended g c s ran = return-ended c.args.self.now c.args.hart c.in-Back.rd c.in-Back.target
+    (sym c.go_back.ensures.made.kind ∙ ran)

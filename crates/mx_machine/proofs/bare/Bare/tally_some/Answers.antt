@@ -15,7 +15,8 @@ count_fetches-requires g c =
       search checker-inside,
       (
         subst (λ (m : Held). h < length m.parts.harts) (sym c.self.view_is) c.requires.kept,
-        subst (λ (d : ℕ). IfSome (kept_at c.self.inside.bus.supervisor.checker.harts h).domain (λ k. k ≡ d)) (sym c.domain-domain.ensures) own,
+        subst (λ (d : ℕ). IfSome (kept_at c.self.inside.bus.supervisor.checker.harts h).domain (λ k. k ≡ d)) (sym c.domain-domain.ensures)
+            own,
       ),
     )
 
@@ -26,8 +27,10 @@ returns g c =
     let v = held_of p b in
     let h = c.args.hart in
     let n = c.args.turns in
-    ap (λ k. held_of p (record b { bus = record b.bus { supervisor = record b.bus.supervisor { checker = k } }; steps = b.steps + n })) c.count_fetches.ensures
-    ∙ ap (λ (d : ℕ). record v { parts = record v.parts { harts = at_hart h (hits_all n d) v.parts.harts }; steps = v.steps + n }) c.domain-domain.ensures
+    ap (λ k. held_of p (record b { bus = record b.bus { supervisor = record b.bus.supervisor { checker = k } }; steps = b.steps + n }))
+    c.count_fetches.ensures
+    ∙ ap (λ (d : ℕ). record v { parts = record v.parts { harts = at_hart h (hits_all n d) v.parts.harts }; steps = v.steps + n })
+    c.domain-domain.ensures
     ∙ ap (λ (m : Held). tallied h n m) c.self.view_is
 
 pub domain-domain-requires : goal.domain-domain-requires

@@ -23,7 +23,11 @@ kill-requires g c =
     let a = c.requires.run.act in
     let d = c.domain-domain.ensures ∙ ap (λ (m : Held). (hart_among m.harts c.args.hart).domain) c.self.view_is in (
       assumption c,
-      (subst (λ (n : ℕ). 1 ≤ n) (sym d) a.domain.first, few-dead _ _ (length m.parts.maps) _ d a.domain.last a.fits.sound.few_maps a.fits.dead),
+      (
+        subst (λ (n : ℕ). 1 ≤ n) (sym d) a.domain.first,
+        few-dead _ _ (length m.parts.maps) _ d a.domain.last a.fits.sound.few_maps
+            a.fits.dead,
+      ),
     )
 
 pub fall-requires : goal.fall-requires
@@ -47,10 +51,15 @@ returns g c =
     let m = c.args.self.now in
     let h = c.args.hart in
     let x = hart_among m.harts h in
-    let d : c.domain-domain.result ≡ x.domain = c.domain-domain.ensures ∙ ap (λ (m : Held). (hart_among m.harts c.args.hart).domain) c.self.view_is in
+    let d : c.domain-domain.result ≡ x.domain = c.domain-domain.ensures
+    ∙ ap (λ (m : Held). (hart_among m.harts c.args.hart).domain) c.self.view_is in
     let new : c.fall.new.self ≡ fallen h c.args.cause (killed x.domain c.args.cause m) =
     c.fall.ensures ∙ ap (fallen h c.args.cause) (c.kill.ensures ∙ ap (λ (d : ℕ). killed d c.args.cause m) d) in
-    let out : c.set_note.new.self ≡ record { bytes = []; note = Some (N.Fault m.steps h x.domain x.pc (record { cause = c.args.cause; value = c.args.value })) } =
+    let out : c.set_note.new.self ≡ record {
+      bytes = [];
+      note =
+          Some (N.Fault m.steps h x.domain x.pc (record { cause = c.args.cause; value = c.args.value }));
+    } =
     c.set_note.ensures ∙ ap (λ (e : Events). record e { note = Some c.fault-note.result }) c.requires.empty
     ∙ ap (λ (n : Note). record { bytes = []; note = Some n }) c.fault-note.ensures in
     record {

@@ -12,7 +12,11 @@ use Rattle.mx_machine.proofs.StretchLaws.{alive-instruction, alive-now}
 use Rattle.mx_machine.proofs.bare.Bare.turn_on.Goals as goal
 
 pub hear-requires : goal.hear-requires
-hear-requires g c = (assumption c, may-hear c.args.self.now c.args.hart c.requires.whole G.Running c.requires.alive.runs refl _ c.self.view_is)
+hear-requires g c = (
+  assumption c,
+  may-hear c.args.self.now c.args.hart c.requires.whole G.Running c.requires.alive.runs refl _
+      c.self.view_is,
+)
 
 pub domain-domain-requires : goal.domain-domain-requires
 domain-domain-requires g c =
@@ -34,7 +38,11 @@ gate-requires g c =
     let at = c.requires.alive.runs in
     let n = c.hear.new.self in
     let is : n ≡ heard h (counted m) = c.hear.ensures.after ∙ ap (λ (k : Held). heard h (counted k)) c.self.view_is in
-    let run : MayRun n h = record { act = acts-now m h w G.Running at refl n is c.hear.ensures.all; runs = stands-now m h w G.Running at refl n is } in
+    let run : MayRun n h = record {
+      act = acts-now m h w G.Running at refl n is c.hear.ensures.all;
+      runs =
+          stands-now m h w G.Running at refl n is;
+    } in
     (assumption c, run.act.fits.sound.few_words)
 
 pub at_gate-requires : goal.at_gate-requires
@@ -45,10 +53,16 @@ at_gate-requires g c =
     let at = c.requires.alive.runs in
     let n = c.hear.new.self in
     let is : n ≡ heard h (counted m) = c.hear.ensures.after ∙ ap (λ (k : Held). heard h (counted k)) c.self.view_is in
-    let run : MayRun n h = record { act = acts-now m h w G.Running at refl n is c.hear.ensures.all; runs = stands-now m h w G.Running at refl n is } in
-    let d : c.domain-domain.result ≡ (hart_among n.harts h).domain = c.domain-domain.ensures ∙ ap (λ (k : Held). (hart_among k.harts h).domain) c.self-2.view_is in
+    let run : MayRun n h = record {
+      act = acts-now m h w G.Running at refl n is c.hear.ensures.all;
+      runs =
+          stands-now m h w G.Running at refl n is;
+    } in
+    let d : c.domain-domain.result ≡ (hart_among n.harts h).domain = c.domain-domain.ensures
+    ∙ ap (λ (k : Held). (hart_among k.harts h).domain) c.self-2.view_is in
     let p : c.pc-pc.result ≡ (hart_among n.harts h).pc = c.pc-pc.ensures ∙ ap (λ (k : Held). (hart_among k.harts h).pc) c.self-2.view_is in
-    let alive : get_or n.dead c.domain-domain.result false ≡ false = ap (λ x. get_or n.dead x false) d ∙ alive-now m n h c.requires.alive is in
+    let alive : get_or n.dead c.domain-domain.result false ≡ false = ap (λ x. get_or n.dead x false) d
+    ∙ alive-now m n h c.requires.alive is in
     let gate = at-gate-here n h c.domain-domain.result c.pc-pc.result c.in-Some.target run d p alive (sym c.in-Some.ensures) in
     (assumption c, (valid-now m h w G.Running at refl n is, (gate, c.requires.empty)))
 
@@ -76,8 +90,13 @@ execute-requires g c =
     let at = c.requires.alive.runs in
     let n = c.hear.new.self in
     let is : n ≡ heard h (counted m) = c.hear.ensures.after ∙ ap (λ (k : Held). heard h (counted k)) c.self.view_is in
-    let run : MayRun n h = record { act = acts-now m h w G.Running at refl n is c.hear.ensures.all; runs = stands-now m h w G.Running at refl n is } in
-    let d : c.domain-domain.result ≡ (hart_among n.harts h).domain = c.domain-domain.ensures ∙ ap (λ (k : Held). (hart_among k.harts h).domain) c.self-2.view_is in
+    let run : MayRun n h = record {
+      act = acts-now m h w G.Running at refl n is c.hear.ensures.all;
+      runs =
+          stands-now m h w G.Running at refl n is;
+    } in
+    let d : c.domain-domain.result ≡ (hart_among n.harts h).domain = c.domain-domain.ensures
+    ∙ ap (λ (k : Held). (hart_among k.harts h).domain) c.self-2.view_is in
     let p : c.pc-pc.result ≡ (hart_among n.harts h).pc = c.pc-pc.ensures ∙ ap (λ (k : Held). (hart_among k.harts h).pc) c.self-2.view_is in
     let live = alive-now m n h c.requires.alive is in
     let alive : get_or n.dead c.domain-domain.result false ≡ false = ap (λ x. get_or n.dead x false) d ∙ live in
@@ -92,8 +111,13 @@ returns-in-None g c =
     let at = c.requires.alive.runs in
     let n = c.hear.new.self in
     let is : n ≡ heard h (counted m) = c.hear.ensures.after ∙ ap (λ (k : Held). heard h (counted k)) c.self.view_is in
-    let run : MayRun n h = record { act = acts-now m h w G.Running at refl n is c.hear.ensures.all; runs = stands-now m h w G.Running at refl n is } in
-    let d : c.domain-domain.result ≡ (hart_among n.harts h).domain = c.domain-domain.ensures ∙ ap (λ (k : Held). (hart_among k.harts h).domain) c.self-2.view_is in
+    let run : MayRun n h = record {
+      act = acts-now m h w G.Running at refl n is c.hear.ensures.all;
+      runs =
+          stands-now m h w G.Running at refl n is;
+    } in
+    let d : c.domain-domain.result ≡ (hart_among n.harts h).domain = c.domain-domain.ensures
+    ∙ ap (λ (k : Held). (hart_among k.harts h).domain) c.self-2.view_is in
     let p : c.pc-pc.result ≡ (hart_among n.harts h).pc = c.pc-pc.ensures ∙ ap (λ (k : Held). (hart_among k.harts h).pc) c.self-2.view_is in
     let live = alive-now m n h c.requires.alive is in
     let alive : get_or n.dead c.domain-domain.result false ≡ false = ap (λ x. get_or n.dead x false) d ∙ live in

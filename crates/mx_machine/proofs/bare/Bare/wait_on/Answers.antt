@@ -19,8 +19,11 @@ use Rattle.mx_machine.proofs.InnerSizes.{checker-inside}
 use Rattle.mx_machine.proofs.bare.Bare.wait_on.Goals as goal
 
 pub ready-requires : goal.ready-requires
-ready-requires g c =
-    (search checker-inside, subst (λ (n : Held). c.args.hart < length n.parts.harts) (sym c.self.view_is) (kept-there c.args.self.now c.args.hart c.requires.act))
+ready-requires g c = (
+  search checker-inside,
+  subst (λ (n : Held). c.args.hart < length n.parts.harts) (sym c.self.view_is)
+      (kept-there c.args.self.now c.args.hart c.requires.act),
+)
 
 pub returns-then-not-ready-clause-made : goal.returns-then-not-ready-clause-made
 returns-then-not-ready-clause-made g c =
@@ -28,7 +31,8 @@ returns-then-not-ready-clause-made g c =
     let h = c.args.hart in
     let late : is_ready h m.parts.harts ≡ false =
     ap (λ (n : Held). is_ready h n.parts.harts) (sym c.self.view_is) ∙ sym c.ready.ensures.ready ∙ c.if-not-ready.true in
-    subst (λ (e : Events). IsMade m m e T.Waited (made_after_hearing m h)) (sym c.requires.empty) (made-waits m h c.requires.act c.requires.waits late)
+    subst (λ (e : Events). IsMade m m e T.Waited (made_after_hearing m h)) (sym c.requires.empty)
+    (made-waits m h c.requires.act c.requires.waits late)
 
 pub returns-then-not-ready-clause-fits : goal.returns-then-not-ready-clause-fits
 returns-then-not-ready-clause-fits g c = c.requires.act.fits
@@ -43,7 +47,8 @@ serve-requires g c = (
     let m = c.args.self.now in
         let h = c.args.hart in
         let a = c.requires.act in
-        let own : c.call-call.result ≡ own_call h (hart_among m.harts h) = c.call-call.ensures ∙ ap (λ (n : Held). own_call h (hart_among n.harts h)) c.self.view_is in
+        let own : c.call-call.result ≡ own_call h (hart_among m.harts h) = c.call-call.ensures
+        ∙ ap (λ (n : Held). own_call h (hart_among n.harts h)) c.self.view_is in
         let ready : is_ready h m.parts.harts ≡ true =
         ap (λ (n : Held). is_ready h n.parts.harts) (sym c.self.view_is) ∙ sym c.ready.ensures.ready ∙ c.if-not-ready.false in
         subst (λ (k : Call). IsServing m h k) (sym own)
@@ -61,16 +66,19 @@ returns-clause-made g c =
     let h = c.args.hart in
     let n = c.serve.new.self in
     let w = c.any_waits-self-inside.result in
-    let own : c.call-call.result ≡ own_call h (hart_among m.harts h) = c.call-call.ensures ∙ ap (λ (n : Held). own_call h (hart_among n.harts h)) c.self.view_is in
+    let own : c.call-call.result ≡ own_call h (hart_among m.harts h) = c.call-call.ensures
+    ∙ ap (λ (n : Held). own_call h (hart_among n.harts h)) c.self.view_is in
     let ready : is_ready h m.parts.harts ≡ true =
     ap (λ (n : Held). is_ready h n.parts.harts) (sym c.self.view_is) ∙ sym c.ready.ensures.ready ∙ c.if-not-ready.false in
     made-moved m (record n { waiting = w }) _ _ _ _ _ _ (sym (ap (λ (n : Held). record n { waiting = w }) c.self-2.view_is)) refl refl
     (made-settled m n h w c.serve.new.out c.requires.act c.requires.waits ready
-    (subst (λ (k : Call). IsMade m n c.serve.new.out T.Called (served (reads_of m) (core_in m) h (hart_in m h) k)) own c.serve.ensures.made))
+    (subst (λ (k : Call). IsMade m n c.serve.new.out T.Called (served (reads_of m) (core_in m) h (hart_in m h) k)) own
+    c.serve.ensures.made))
 
 pub returns-clause-fits : goal.returns-clause-fits
 returns-clause-fits g c =
     let n = c.serve.new.self in
     subst (λ (n : Held). Fits n)
-    (sym (rw c.any_waits-self-inside.ensures (ap (λ (n : Held). record n { waiting = list_any (λ (x : Hart). is_waiting x.progress) n.harts }) c.self-2.view_is)))
+    (sym (rw c.any_waits-self-inside.ensures (ap (λ (n : Held).
+    record n { waiting = list_any (λ (x : Hart). is_waiting x.progress) n.harts }) c.self-2.view_is)))
     (fits-settled n c.serve.ensures.fits)

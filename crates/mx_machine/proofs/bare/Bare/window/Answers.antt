@@ -45,7 +45,8 @@ tables-requires g c = search checker-inside
 
 pub word_of-requires : goal.word_of-requires
 word_of-requires g c =
-    subst (λ (n : ℕ). n ≤ 2 ^ 24) (sym (c.words-words.ensures ∙ ap g.T.PermTables.size c.tables.ensures ∙ ap (λ (k : Held). k.parts.size) c.self.view_is)) c.requires.fits.sound.few_words
+    subst (λ (n : ℕ). n ≤ 2 ^ 24) (sym (c.words-words.ensures ∙ ap g.T.PermTables.size c.tables.ensures
+    ∙ ap (λ (k : Held). k.parts.size) c.self.view_is)) c.requires.fits.sound.few_words
 
 pub returns-then-first-end : goal.returns-then-first-end
 returns-then-first-end g c =
@@ -60,16 +61,23 @@ returns-then-first-end g c =
     let found : found_in_place (kept_at m.parts.harts h).cache.places 0 word ≡ Some s = sym (c.at_hand.ensures
     ∙ ap (λ (k : Held). found_in_place (kept_at k.parts.harts h).cache.places 0 word) c.self.view_is) ∙ c.in-Some-at_hand.is in
     let right : allows s.perm Execute ≡ true = sym c.allows.ensures ∙ c.if-not-allows.false in
-    let words : c.words-words.result ≡ m.parts.size = c.words-words.ensures ∙ ap g.T.PermTables.size c.tables.ensures ∙ ap (λ (k : Held). k.parts.size) c.self.view_is in
+    let words : c.words-words.result ≡ m.parts.size = c.words-words.ensures ∙ ap g.T.PermTables.size c.tables.ensures
+    ∙ ap (λ (k : Held). k.parts.size) c.self.view_is in
     let upto : end ≤ c.min.result = least-le c.min.result c.words-words.result end c.min-end.ensures in
-    let ends : end ≤ c.clear-first.result.1 = le-le end c.min.result c.clear-first.result.1 upto (least-le c.clear-first.result.1 c.saturating_add.result c.min.result c.min.ensures) in
-    let sum : end ≤ c.saturating_add.result = le-le end c.min.result c.saturating_add.result upto (least-other c.clear-first.result.1 c.saturating_add.result c.min.result c.min.ensures) in
-    let high : end ≤ s.first + s.count = le-le end c.saturating_add.result (s.first + s.count) sum (least-le (s.first + s.count) _ c.saturating_add.result c.saturating_add.ensures) in
+    let ends : end ≤ c.clear-first.result.1 = le-le end c.min.result c.clear-first.result.1 upto
+    (least-le c.clear-first.result.1 c.saturating_add.result c.min.result c.min.ensures) in
+    let sum : end ≤ c.saturating_add.result = le-le end c.min.result c.saturating_add.result upto
+    (least-other c.clear-first.result.1 c.saturating_add.result c.min.result c.min.ensures) in
+    let high : end ≤ s.first + s.count = le-le end c.saturating_add.result (s.first + s.count) sum
+    (least-le (s.first + s.count) _ c.saturating_add.result c.saturating_add.ensures) in
     let within : end ≤ m.parts.size = subst (λ n. end ≤ n) words (least-other c.min.result c.words-words.result end c.min-end.ensures) in
     let clear : (w : ℕ) → first ≤ w → w < end → gate_target m.parts.gates d w ≡ None = λ w from to.
-    sym (ap (λ n. gate_target c.self.inside.bus.supervisor.gates n w) c.domain.ensures ∙ ap (λ (k : Held). gate_target k.parts.gates (hart_among k.harts h).domain w) c.self.view_is)
-    ∙ c.clear-first.ensures w (le-le c.clear-first.result.0 first w (most-ge c.clear-first.result.0 s.first first c.max-first.ensures) from) (less-le w end c.clear-first.result.1 to ends) in
-    window-found m h word first end s quiet c.requires.fits.sound.few_words found right clear (most-other c.clear-first.result.0 s.first first c.max-first.ensures) high within c.if-first-end.true
+    sym (ap (λ n. gate_target c.self.inside.bus.supervisor.gates n w) c.domain.ensures
+    ∙ ap (λ (k : Held). gate_target k.parts.gates (hart_among k.harts h).domain w) c.self.view_is)
+    ∙ c.clear-first.ensures w (le-le c.clear-first.result.0 first w (most-ge c.clear-first.result.0 s.first first c.max-first.ensures) from)
+    (less-le w end c.clear-first.result.1 to ends) in
+    window-found m h word first end s quiet c.requires.fits.sound.few_words found right clear
+    (most-other c.clear-first.result.0 s.first first c.max-first.ensures) high within c.if-first-end.true
 
 pub words-words-requires : goal.words-words-requires
 words-words-requires g c κs = λ within. within

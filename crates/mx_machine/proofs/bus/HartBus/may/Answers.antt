@@ -17,6 +17,6 @@ returns-clause-inside g c =
 pub returns-clause-usable : goal.returns-clause-usable
 returns-clause-usable g c = record {
   look = c.may.ensures.again;
-  domain = rw c.may.ensures.same_maps (record { first = c.requires.usable.domain.first; last = c.requires.usable.domain.last });
-  ram = rw c.may.ensures.same_size c.requires.usable.ram;
+  domain = rw c.may.ensures.same_tables.same_maps (record { first = c.requires.usable.domain.first; last = c.requires.usable.domain.last });
+  ram = rw c.may.ensures.same_tables.same_size c.requires.usable.ram;
 }

@@ -8,7 +8,7 @@ returns-then-not-may-clause-denied g c = sym (ap not c.if-not-may.true) ∙ c.ma
 
 pub returns-then-not-may-clause-map : goal.returns-then-not-may-clause-map
 returns-then-not-may-clause-map g c =
-    let t = c.may.ensures.touch in perm-same _ _ _ _ _ _ t.same_size t.same_maps t.same_domain
+    let t = c.may.ensures.touch in perm-same _ _ _ _ _ _ t.same_tables.same_size t.same_tables.same_maps t.same_domain
 
 pub load-requires-clause-inside : goal.load-requires-clause-inside
 load-requires-clause-inside g c =
@@ -25,4 +25,4 @@ returns-clause-word g c = rw (c.load.ensures.number, c.may.ensures.ram) refl
 
 pub returns-clause-map : goal.returns-clause-map
 returns-clause-map g c =
-    let t = c.may.ensures.touch in perm-same _ _ _ _ _ _ t.same_size t.same_maps t.same_domain
+    let t = c.may.ensures.touch in perm-same _ _ _ _ _ _ t.same_tables.same_size t.same_tables.same_maps t.same_domain

@@ -7,11 +7,13 @@ pub returns-then-not-may-clause-denied : goal.returns-then-not-may-clause-denied
 returns-then-not-may-clause-denied g c = sym (ap not c.if-not-may.true) ∙ c.may.ensures.answer
 
 pub returns-then-not-may-clause-map : goal.returns-then-not-may-clause-map
-returns-then-not-may-clause-map g c = let t = c.may.ensures.touch in perm-same _ _ _ _ _ _ t.same_size t.same_maps t.same_domain
+returns-then-not-may-clause-map g c = let t = c.may.ensures.touch in
+    perm-same _ _ _ _ _ _ t.same_tables.same_size t.same_tables.same_maps t.same_domain
 
 pub number_in-requires-clause-inside : goal.number_in-requires-clause-inside
 number_in-requires-clause-inside g c =
-    inside-bytes (g.T.PermTables.size c.args.self.now.supervisor.checker.tables) c.args.addr c.args.size _ c.requires.size c.requires.aligned
+    inside-bytes (g.T.PermTables.size c.args.self.now.supervisor.checker.tables) c.args.addr c.args.size _ c.requires.size
+    c.requires.aligned
     (c.may.ensures.inside c.if-not-may.false) (ap length c.may.ensures.ram ∙ c.requires.usable.ram)
 
 pub returns-clause-denied : goal.returns-clause-denied
@@ -22,4 +24,4 @@ unfolding load_at
 returns-clause-number g c = rw (c.number_in.ensures.number, c.may.ensures.ram) refl
 
 pub returns-clause-map : goal.returns-clause-map
-returns-clause-map g c = let t = c.may.ensures.touch in perm-same _ _ _ _ _ _ t.same_size t.same_maps t.same_domain
+returns-clause-map g c = let t = c.may.ensures.touch in perm-same _ _ _ _ _ _ t.same_tables.same_size t.same_tables.same_maps t.same_domain

@@ -14,10 +14,12 @@ pub returns-then-not-may-clause-bytes : goal.returns-then-not-may-clause-bytes
 returns-then-not-may-clause-bytes g c =
     let ram = c.args.self.now.supervisor.ram in
     c.may.ensures.ram
-    ∙ ap (λ (b : Bool). cond b ram (store_at ram c.args.addr c.args.size c.args.value)) (sym (ap not c.if-not-may.true) ∙ c.may.ensures.answer)
+    ∙ ap (λ (b : Bool). cond b ram (store_at ram c.args.addr c.args.size c.args.value)) (sym (ap not c.if-not-may.true)
+    ∙ c.may.ensures.answer)
 
 pub returns-then-not-may-clause-map : goal.returns-then-not-may-clause-map
-returns-then-not-may-clause-map g c = let t = c.may.ensures.touch in perm-same _ _ _ _ _ _ t.same_size t.same_maps t.same_domain
+returns-then-not-may-clause-map g c = let t = c.may.ensures.touch in
+    perm-same _ _ _ _ _ _ t.same_tables.same_size t.same_tables.same_maps t.same_domain
 
 pub returns-then-not-may-clause-usable : goal.returns-then-not-may-clause-usable
 returns-then-not-may-clause-usable g c = c.may.ensures.usable
@@ -27,7 +29,8 @@ returns-then-not-may-clause-touch g c = c.may.ensures.touch
 
 pub store-requires-clause-inside : goal.store-requires-clause-inside
 store-requires-clause-inside g c =
-    inside-bytes (g.T.PermTables.size c.args.self.now.supervisor.checker.tables) c.args.addr c.args.size _ c.requires.size c.requires.aligned
+    inside-bytes (g.T.PermTables.size c.args.self.now.supervisor.checker.tables) c.args.addr c.args.size _ c.requires.size
+    c.requires.aligned
     (c.may.ensures.inside c.if-not-may.false) (ap length c.may.ensures.ram ∙ c.requires.usable.ram)
 
 pub returns-clause-denied : goal.returns-clause-denied
@@ -45,7 +48,7 @@ returns-clause-bytes g c =
     ∙ sym (ap (λ (b : Bool). cond b ram put) free)
 
 pub returns-clause-map : goal.returns-clause-map
-returns-clause-map g c = let t = c.may.ensures.touch in perm-same _ _ _ _ _ _ t.same_size t.same_maps t.same_domain
+returns-clause-map g c = let t = c.may.ensures.touch in perm-same _ _ _ _ _ _ t.same_tables.same_size t.same_tables.same_maps t.same_domain
 
 pub returns-clause-usable : goal.returns-clause-usable
 returns-clause-usable g c =
@@ -58,9 +61,7 @@ returns-clause-touch g c =
     record {
       same_hart = t.same_hart;
       same_domain = t.same_domain;
-      same_maps = t.same_maps;
-      same_size = t.same_size;
-      same_limit = t.same_limit;
+      same_tables = t.same_tables;
       same_owners = t.same_owners;
       same_gates = t.same_gates;
       same_heaps = t.same_heaps;

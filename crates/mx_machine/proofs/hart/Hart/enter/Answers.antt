@@ -10,7 +10,8 @@ returns c =
     let few = c.requires in
     let room : (length c.args.self.now.frames == 64) ≡ false = ne_eqb (length c.args.self.now.frames) 64 (λ e. absurd (omega arith)) in
     let pushed : c.push.new.self ≡ c.args.self.now.frames ++ frame ∷ [] =
-    elim c.push.result as (λ r. is_err r ≡ false → OnOk r (c.push.new.self ≡ c.args.self.now.frames ++ frame ∷ []) → c.push.new.self ≡ c.args.self.now.frames ++ frame ∷ []) [
+    elim c.push.result as (λ r. is_err r ≡ false → OnOk r (c.push.new.self ≡ c.args.self.now.frames ++ frame ∷ [])
+    → c.push.new.self ≡ c.args.self.now.frames ++ frame ∷ []) [
       | Ok x ↦ λ e p. p
       | Err x ↦ λ e p. absurd (let q : ⊥ = cc in q)
     ] (c.push.ensures.full ∙ room) c.push.ensures.ok in

@@ -15,7 +15,8 @@ pub loop-hart-preserved : goal.loop-hart-preserved
 loop-hart-preserved c =
     let count = taken-count c.self.inside.len c.self.inside.items c.args.self.now c.self.view_is c.self.invariant.0 c.self.invariant.1 in
     all-next (λ (x : Hart). is_halted x.progress) c.args.self.now c.loop-hart.hart no_held_hart
-    (subst (λ n. c.loop-hart.hart < n) (sym count) c.loop-hart-test.true) c.loop-hart.invariant (sym c.is_halted.ensures ∙ c.if-not-is_halted.false)
+    (subst (λ n. c.loop-hart.hart < n) (sym count) c.loop-hart-test.true) c.loop-hart.invariant (sym c.is_halted.ensures
+    ∙ c.if-not-is_halted.false)
 
 pub returns : goal.returns
 returns c =

@@ -10,5 +10,7 @@ returns-clause-after g c =
     let part = c.index-self-hart.result in
     let read = hart_read c.self.inside.len c.self.inside.items c.args.self.now c.args.hart part c.self.view_is c.requires.hart in
     hart_written c.self.inside.len c.self.inside.items c.args.self.now c.args.hart part c.self.view_is c.requires.hart
-    (instructed (regs_carried g.B.Bus.perm g.B.Bus.bytes c.args.inst (hart_among c.args.self.now c.args.hart) c.args.bus.now) c.carry_out.result) _
-    (c.carry_out.ensures.after ∙ ap (λ (x : Hart). instructed (regs_carried g.B.Bus.perm g.B.Bus.bytes c.args.inst x c.args.bus.now) c.carry_out.result (get_or c.self.inside.items c.args.hart part)) read)
+    (instructed (regs_carried g.B.Bus.perm g.B.Bus.bytes c.args.inst (hart_among c.args.self.now c.args.hart) c.args.bus.now)
+    c.carry_out.result) _
+    (c.carry_out.ensures.after ∙ ap (λ (x : Hart). instructed (regs_carried g.B.Bus.perm g.B.Bus.bytes c.args.inst x c.args.bus.now)
+    c.carry_out.result (get_or c.self.inside.items c.args.hart part)) read)

@@ -12,4 +12,5 @@ returns c =
     let read = hart_read c.self.inside.len c.self.inside.items c.args.self.now c.args.hart part c.self.view_is c.requires in
     hart_written c.self.inside.len c.self.inside.items c.args.self.now c.args.hart part c.self.view_is c.requires
     (goes (slice_set (hart_among c.args.self.now c.args.hart).regs 10 c.args.value) c.args.pc) _
-    (c.go_with.ensures ∙ ap (λ (x : Hart). goes (slice_set x.regs 10 c.args.value) c.args.pc (get_or c.self.inside.items c.args.hart part)) read)
+    (c.go_with.ensures ∙ ap (λ (x : Hart). goes (slice_set x.regs 10 c.args.value) c.args.pc (get_or c.self.inside.items c.args.hart part))
+    read)

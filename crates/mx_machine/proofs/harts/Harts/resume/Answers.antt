@@ -8,4 +8,5 @@ use Rattle.mx_machine.proofs.harts.Harts.resume.Goals as goal
 pub returns : goal.returns
 returns c =
     four-are (list_map resumed_hart c.args.states.now) c.len.result c.hart.result c.hart-2.result c.hart-3.result c.hart-4.result
-    (c.len.ensures.number ∙ sym (length-map c.args.states.now resumed_hart)) c.len.ensures.few c.hart.ensures c.hart-2.ensures c.hart-3.ensures c.hart-4.ensures
+    (c.len.ensures.number ∙ sym (length-map c.args.states.now resumed_hart)) c.len.ensures.few c.hart.ensures c.hart-2.ensures
+    c.hart-3.ensures c.hart-4.ensures

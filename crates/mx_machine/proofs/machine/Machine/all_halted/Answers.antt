@@ -11,4 +11,5 @@ pub returns : goal.returns
 returns g c =
     let m = c.self.inside.bare in
     subst (λ (f : Flat). c.all_halted.result ≡ all_halted f.core) c.self.view_is
-    (c.all_halted.ensures ∙ ap (λ x. list_all (λ (y : Hart). is_halted y.progress) x.bare.harts) c.self-inside.view_is ∙ sym (all-halted 0 m.harts m.parts.harts))
+    (c.all_halted.ensures ∙ ap (λ x. list_all (λ (y : Hart). is_halted y.progress) x.bare.harts) c.self-inside.view_is
+    ∙ sym (all-halted 0 m.harts m.parts.harts))

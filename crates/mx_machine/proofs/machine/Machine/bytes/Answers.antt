@@ -7,7 +7,8 @@ pub bytes-requires : goal.bytes-requires
 bytes-requires g c =
     let fits = c.self.invariant.fits in
     subst (λ x. c.args.first + c.args.count ≤ length x.bare.parts.ram) (sym c.self-inside.view_is)
-    (subst (λ n. c.args.first + c.args.count ≤ n) (sym fits.sound.ram) (subst (λ (f : Flat). c.args.first + c.args.count ≤ 4 * f.core.size) (sym c.self.view_is) c.requires))
+    (subst (λ n. c.args.first + c.args.count ≤ n) (sym fits.sound.ram)
+    (subst (λ (f : Flat). c.args.first + c.args.count ≤ 4 * f.core.size) (sym c.self.view_is) c.requires))
 
 pub returns : goal.returns
 returns g c =

@@ -12,7 +12,8 @@ counts-requires g c =
     let m = c.self.inside.bare in (
       search fits-checker,
       subst (λ x. c.args.hart < length x.bare.parts.harts) (sym c.self-inside.view_is)
-          (kept-there m c.args.hart c.self.invariant.fits (subst (λ (f : Flat). c.args.hart < length f.core.harts) (sym c.self.view_is) c.requires)),
+          (kept-there m c.args.hart c.self.invariant.fits (subst (λ (f : Flat). c.args.hart < length f.core.harts) (sym c.self.view_is)
+          c.requires)),
     )
 
 pub returns-clause-sidecar : goal.returns-clause-sidecar

@@ -10,7 +10,8 @@ pub view-requires : goal.view-requires
 view-requires g c =
     let m = c.self.inside.bare in
     subst (λ x. c.args.hart < length x.bare.harts) (sym c.self-inside.view_is)
-    (subst (λ n. c.args.hart < n) (length-seen 0 m.harts m.parts.harts) (subst (λ (f : Flat). c.args.hart < length f.core.harts) (sym c.self.view_is) c.requires))
+    (subst (λ n. c.args.hart < n) (length-seen 0 m.harts m.parts.harts)
+    (subst (λ (f : Flat). c.args.hart < length f.core.harts) (sym c.self.view_is) c.requires))
 
 pub returns : goal.returns
 returns g c =

@@ -22,4 +22,5 @@ pub returns : goal.returns
 returns g c =
     let m = c.self.inside.bare in
     subst (λ (f : Flat). area_of c.heap_area.result ≡ (module_at f.core c.args.domain).heap) c.self.view_is
-    (c.heap_area.ensures ∙ ap (λ x. (heap_at x.bare.parts.heaps c.args.domain).area) c.self-inside.view_is ∙ sym (module-heap (rest_of m) m.parts c.args.domain))
+    (c.heap_area.ensures ∙ ap (λ x. (heap_at x.bare.parts.heaps c.args.domain).area) c.self-inside.view_is
+    ∙ sym (module-heap (rest_of m) m.parts c.args.domain))

@@ -10,5 +10,6 @@ tables-requires g c = search fits-checker
 pub returns : goal.returns
 returns g c =
     subst (λ (f : Flat). c.modules.result ≡ length f.core.modules) c.self.view_is
-    (c.modules.ensures ∙ ap (λ t. length (g.T.PermTables.maps t)) c.tables.ensures ∙ ap (λ x. length x.bare.parts.maps) c.self-inside.view_is
+    (c.modules.ensures ∙ ap (λ t. length (g.T.PermTables.maps t)) c.tables.ensures
+    ∙ ap (λ x. length x.bare.parts.maps) c.self-inside.view_is
     ∙ modules-in c.self.inside.bare c.self.invariant.fits)

@@ -10,7 +10,8 @@ pub start-requires-clause-each : goal.start-requires-clause-each
 start-requires-clause-each g c = starts-in-modules _ c.args.starts.now c.requires.may.each
 
 pub start-requires-clause-areas : goal.start-requires-clause-areas
-start-requires-clause-areas g c = λ d. stack-at _ (length c.args.starts.now) most_words d c.args.stacks.now (g.met.T.PermTables.shaped c.args.parts.checker.tables).few_words c.requires.may.areas
+start-requires-clause-areas g c = λ d. stack-at _ (length c.args.starts.now) most_words d c.args.stacks.now
+    (g.met.T.PermTables.shaped c.args.parts.checker.tables).few_words c.requires.may.areas
 
 pub invariant_of-result : goal.invariant_of-result
 invariant_of-result g c =
@@ -26,5 +27,6 @@ invariant_of-result g c =
       gates = c.requires.gates;
       one_gate = c.get-few_gates.ensures.apart;
     } in
-    rw (c.start.ensures, c.copy.ensures) (whole-started p c.args.starts.now c.args.stacks.now (sound-joined p shaped c.requires.joined) c.requires.may
+    rw (c.start.ensures, c.copy.ensures) (whole-started p c.args.starts.now c.args.stacks.now (sound-joined p shaped c.requires.joined)
+    c.requires.may
     c.starts_of.ensures.few c.starts_of.ensures.small typed c.spans_are_coherent.ensures.empty)

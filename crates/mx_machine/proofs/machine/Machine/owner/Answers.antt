@@ -7,7 +7,8 @@ use Rattle.mx_machine.proofs.machine.Machine.owner.Goals as goal
 pub owner-requires : goal.owner-requires
 owner-requires g c =
     subst (λ x. c.args.word < length x.bare.parts.owners) (sym c.self-inside.view_is)
-    (subst (λ n. c.args.word < n) (sym c.self.invariant.fits.sound.owners) (subst (λ (f : Flat). c.args.word < f.core.size) (sym c.self.view_is) c.requires))
+    (subst (λ n. c.args.word < n) (sym c.self.invariant.fits.sound.owners)
+    (subst (λ (f : Flat). c.args.word < f.core.size) (sym c.self.view_is) c.requires))
 
 pub returns : goal.returns
 returns g c =

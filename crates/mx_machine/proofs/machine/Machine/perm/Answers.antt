@@ -16,8 +16,10 @@ perm-requires g c =
       search fits-checker,
       (
         subst (λ x. IsDomain x.bare.parts.maps c.args.domain) (sym c.self-inside.view_is)
-            (domain-in m fits c.args.domain (subst (λ (f : Flat). IsModule (length f.core.modules) c.args.domain) (sym c.self.view_is) c.requires.domain)),
-        subst (λ x. c.args.word < x.bare.parts.size) (sym c.self-inside.view_is) (subst (λ (f : Flat). c.args.word < f.core.size) (sym c.self.view_is) c.requires.word),
+            (domain-in m fits c.args.domain (subst (λ (f : Flat). IsModule (length f.core.modules) c.args.domain) (sym c.self.view_is)
+            c.requires.domain)),
+        subst (λ x. c.args.word < x.bare.parts.size) (sym c.self-inside.view_is)
+            (subst (λ (f : Flat). c.args.word < f.core.size) (sym c.self.view_is) c.requires.word),
       ),
     )
 
@@ -28,4 +30,5 @@ returns g c =
     subst (λ (f : Flat). c.perm.result ≡ perm_at (map_in f.core.size f.maps c.args.domain) c.args.word) c.self.view_is
     (c.perm.ensures ∙ ap (λ x. perm_at (map_of x.bare.parts.maps c.args.domain) c.args.word) c.self-inside.view_is
     ∙ ap (λ (p : List Perm). perm_at p c.args.word)
-    (map-there m fits c.args.domain (subst (λ (f : Flat). IsModule (length f.core.modules) c.args.domain) (sym c.self.view_is) c.requires.domain)))
+    (map-there m fits c.args.domain (subst (λ (f : Flat). IsModule (length f.core.modules) c.args.domain) (sym c.self.view_is)
+    c.requires.domain)))

@@ -78,7 +78,8 @@ spans-preserved g c =
     let round = walk_round f c.args.domain c.spans.end c.span-next.result c.span-next.ensures whole small in
     let start = walk_round f c.args.domain c.args.word c.span-span.result c.span-span.ensures whole c.requires.word in
     let one = differs_false the_type (search rules) _ _ (sym c.if-ne.ensures) in
-    alike_more m c.args.word c.spans.end c.span-next.result c.spans.invariant round (one ∙ round_perm m c.args.word c.span-span.result start)
+    alike_more m c.args.word c.spans.end c.span-next.result c.spans.invariant round (one
+    ∙ round_perm m c.args.word c.span-span.result start)
 
 pub returns-clause-within : goal.returns-clause-within
 returns-clause-within g c =

@@ -22,7 +22,8 @@ halt_left-requires g c =
       search fits-inside,
       (
         rw c.resume-left.ensures (as-many p c.args.harts.now c.args.stacks.now c.args.dead.now c.args.steps c.requires.may),
-        subst (λ (xs : List Hart). (h : ℕ) → is_halted (hart_among xs h).progress ≡ true → (kept_at p.harts h).flight ≡ None) (sym c.resume-left.ensures)
+        subst (λ (xs : List Hart). (h : ℕ) → is_halted (hart_among xs h).progress ≡ true
+            → (kept_at p.harts h).flight ≡ None) (sym c.resume-left.ensures)
             (free-resumed p c.args.harts.now c.args.stacks.now c.args.dead.now c.args.steps c.requires.may),
       ),
     )
@@ -42,9 +43,11 @@ invariant_of-result g c =
       one_gate = c.get-few_gates.ensures.apart;
     } in
     let held : Held = held_resumed p c.args.harts.now c.args.stacks.now c.args.dead.now c.args.steps in
-    let same : c.halt_left.new.self ≡ held = c.halt_left.ensures ∙ rw (c.any_waits-waiting.ensures, c.copy.ensures, c.resume-left.ensures) refl in
+    let same : c.halt_left.new.self ≡ held = c.halt_left.ensures
+    ∙ rw (c.any_waits-waiting.ensures, c.copy.ensures, c.resume-left.ensures) refl in
     subst IsWhole (sym same)
-    (whole-resumed p c.args.harts.now c.args.stacks.now c.args.dead.now c.args.steps (sound-joined p shaped c.requires.joined) c.requires.may c.states_of.ensures.few c.told-dead
+    (whole-resumed p c.args.harts.now c.args.stacks.now c.args.dead.now c.args.steps (sound-joined p shaped c.requires.joined)
+    c.requires.may c.states_of.ensures.few c.told-dead
     c.states_of.ensures.small typed c.flights_of.ensures.hearers c.spans_are_coherent.ensures.empty)
 
 pub returns : goal.returns
@@ -52,5 +55,6 @@ returns g c =
     let T = g.T.PermTables in
     let p : Parts = parts_of {N = g.row.N} T c.args.parts in
     let held : Held = held_resumed p c.args.harts.now c.args.stacks.now c.args.dead.now c.args.steps in
-    let same : c.halt_left.new.self ≡ held = c.halt_left.ensures ∙ rw (c.any_waits-waiting.ensures, c.copy.ensures, c.resume-left.ensures) refl in
+    let same : c.halt_left.new.self ≡ held = c.halt_left.ensures
+    ∙ rw (c.any_waits-waiting.ensures, c.copy.ensures, c.resume-left.ensures) refl in
     ap meaning same ∙ meaning-resumed p c.args.harts.now c.args.stacks.now c.args.dead.now c.args.steps c.requires.may

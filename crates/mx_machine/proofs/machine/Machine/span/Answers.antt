@@ -33,4 +33,5 @@ returns g c =
     (c.span.ensures ∙ ap (λ t. span g.T.PermTables.kind (map_of (g.T.PermTables.maps t) c.args.domain) c.args.word) c.tables.ensures
     ∙ ap (λ x. span x.bare.parts.kind (map_of x.bare.parts.maps c.args.domain) c.args.word) c.self-inside.view_is
     ∙ ap (λ (p : List Perm). span m.parts.kind p c.args.word)
-    (map-there m fits c.args.domain (subst (λ (f : Flat). IsModule (length f.core.modules) c.args.domain) (sym c.self.view_is) c.requires.domain)))
+    (map-there m fits c.args.domain (subst (λ (f : Flat). IsModule (length f.core.modules) c.args.domain) (sym c.self.view_is)
+    c.requires.domain)))

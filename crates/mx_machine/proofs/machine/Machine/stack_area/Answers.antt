@@ -12,7 +12,8 @@ returns-then-area-eq0 g c =
     let m = c.self.inside.bare in
     let there : IsModule (length (core_in m).modules) c.args.domain =
     subst (λ (f : Flat). IsModule (length f.core.modules) c.args.domain) (sym c.self.view_is) c.requires in
-    let is : c.area-area.result ≡ area_of m.stacks c.args.domain = c.area-area.ensures ∙ ap (λ x. area_of x.bare.stacks c.args.domain) c.self-inside.view_is in
+    let is : c.area-area.result ≡ area_of m.stacks c.args.domain = c.area-area.ensures
+    ∙ ap (λ x. area_of x.bare.stacks c.args.domain) c.self-inside.view_is in
     subst (λ (f : Flat). IsAreaOf (module_at f.core c.args.domain) (record c.area-area.result { first = 0 })) c.self.view_is
     (area-none m c.self.invariant.fits c.args.domain c.area-area.result there is c.if-area-eq0.true)
 
@@ -21,6 +22,7 @@ returns-else-area-eq0 g c =
     let m = c.self.inside.bare in
     let there : IsModule (length (core_in m).modules) c.args.domain =
     subst (λ (f : Flat). IsModule (length f.core.modules) c.args.domain) (sym c.self.view_is) c.requires in
-    let is : c.area-area.result ≡ area_of m.stacks c.args.domain = c.area-area.ensures ∙ ap (λ x. area_of x.bare.stacks c.args.domain) c.self-inside.view_is in
+    let is : c.area-area.result ≡ area_of m.stacks c.args.domain = c.area-area.ensures
+    ∙ ap (λ x. area_of x.bare.stacks c.args.domain) c.self-inside.view_is in
     subst (λ (f : Flat). IsAreaOf (module_at f.core c.args.domain) c.area-area.result) c.self.view_is
     (area-some m c.self.invariant.fits c.args.domain c.area-area.result there is c.if-area-eq0.false)

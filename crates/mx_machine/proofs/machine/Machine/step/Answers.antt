@@ -40,7 +40,8 @@ returns-clause-kind g c = subst (λ (f : Flat). c.step.result ≡ flat_kind f c.
 
 pub returns-clause-state : goal.returns-clause-state
 returns-clause-state g c =
-    subst (λ (f : Flat). (s : State) → f ≡ flat s → IsTurn s c.args.hart (meaning c.step.new.self) c.step.new.out c.step.result) c.self.view_is
+    subst (λ (f : Flat). (s : State) → f ≡ flat s → IsTurn s c.args.hart (meaning c.step.new.self) c.step.new.out c.step.result)
+    c.self.view_is
     (is-turn (meaning c.self.inside.bare) (meaning c.step.new.self) c.args.hart c.step.new.out c.step.result
     (turn-is c.self.inside.bare c.step.new.self c.args.hart c.step.new.out c.step.result c.step.ensures.made)
     (told-is c.self.inside.bare c.step.new.self c.args.hart c.step.new.out c.step.result c.step.ensures.made) c.step.ensures.made.kind)
@@ -48,8 +49,10 @@ returns-clause-state g c =
 pub returns-clause-foreign : goal.returns-clause-foreign
 returns-clause-foreign g c =
     subst (λ (f : Flat). ForeignAfter (flat_reads f) f.core c.args.hart (meaning c.step.new.self).core) c.self.view_is
-    (subst (λ (e : Core). ForeignAfter (flat_reads (meaning c.self.inside.bare)) (meaning c.self.inside.bare).core c.args.hart e) (sym c.step.ensures.made.core)
-    (c.turns_keep_foreign_words.ensures.foreign (flat_reads (meaning c.self.inside.bare)) (meaning c.self.inside.bare).core c.args.hart c.self.invariant.valid))
+    (subst (λ (e : Core). ForeignAfter (flat_reads (meaning c.self.inside.bare)) (meaning c.self.inside.bare).core c.args.hart e)
+    (sym c.step.ensures.made.core)
+    (c.turns_keep_foreign_words.ensures.foreign (flat_reads (meaning c.self.inside.bare)) (meaning c.self.inside.bare).core c.args.hart
+    c.self.invariant.valid))
 
 pub returns-clause-bytes : goal.returns-clause-bytes
 returns-clause-bytes g c =
@@ -60,8 +63,10 @@ returns-clause-bytes g c =
 pub returns-clause-frames : goal.returns-clause-frames
 returns-clause-frames g c =
     subst (λ (f : Flat). FramesAfter (hart_at f.core c.args.hart) (hart_at (meaning c.step.new.self).core c.args.hart)) c.self.view_is
-    (subst (λ (e : Core). FramesAfter (hart_at (meaning c.self.inside.bare).core c.args.hart) (hart_at e c.args.hart)) (sym c.step.ensures.made.core)
-    (c.turns_keep_frames.ensures.own (flat_reads (meaning c.self.inside.bare)) (meaning c.self.inside.bare).core c.args.hart c.self.invariant.valid))
+    (subst (λ (e : Core). FramesAfter (hart_at (meaning c.self.inside.bare).core c.args.hart) (hart_at e c.args.hart))
+    (sym c.step.ensures.made.core)
+    (c.turns_keep_frames.ensures.own (flat_reads (meaning c.self.inside.bare)) (meaning c.self.inside.bare).core c.args.hart
+    c.self.invariant.valid))
 
 pub returns-clause-others : goal.returns-clause-others
 returns-clause-others g c = λ h ne.

@@ -7,5 +7,6 @@ use Rattle.mx_manifest.proofs.plan.Plan.hart.Goals as goal
 pub returns-clause-range : goal.returns-clause-range
 returns-clause-range c =
     let here = c.index.result.now in
-    let at : here ≡ get_or c.args.self.now.harts c.args.i here = subst (λ (p : Said). here ≡ get_or p.harts c.args.i here) c.self.view_is c.index.ensures in
+    let at : here ≡ get_or c.args.self.now.harts c.args.i here =
+    subst (λ (p : Said). here ≡ get_or p.harts c.args.i here) c.self.view_is c.index.ensures in
     (subst IsInRange c.self.view_is c.self.invariant).harts c.args.i here (slice_get_read _ _ c.args.i here refl c.requires at)

@@ -7,13 +7,16 @@ use Rattle.mx_owners.proofs.owners.Owners.owner.Goals.{After-run_place}
 use Rattle.mx_owners.proofs.owners.Owners.owner.Goals as goal
 
 pub run_place-requires-clause-rising : goal.run_place-requires-clause-rising
-run_place-requires-clause-rising c = rw c.deref.ensures.value (λ i j le lt. rising 0 _ 0 c.self.inside.runs.items i j c.self.invariant.are.fill le lt)
+run_place-requires-clause-rising c = rw c.deref.ensures.value (λ i j le lt.
+    rising 0 _ 0 c.self.inside.runs.items i j c.self.invariant.are.fill le lt)
 
 round : (c : After-run_place) → IsRound c.self.inside.words c.self.inside.runs.items c.args.word c.run_place.result
 round c =
-    let len : length (owners_in c.self.inside.words c.self.inside.runs.items) ≡ c.self.inside.words = length-owners_in c.self.inside.words c.self.inside.runs.items in
+    let len : length (owners_in c.self.inside.words c.self.inside.runs.items) ≡ c.self.inside.words =
+    length-owners_in c.self.inside.words c.self.inside.runs.items in
     let word : c.args.word < length (owners_in c.self.inside.words c.self.inside.runs.items) = rw c.self.view_is c.requires in
-    let place : c.run_place.result ≡ place_of c.self.inside.runs.items c.args.word = rw c.deref.ensures.value at c.run_place.ensures.place in
+    let place : c.run_place.result ≡ place_of c.self.inside.runs.items c.args.word =
+    rw c.deref.ensures.value at c.run_place.ensures.place in
     rw place (is_round c.self.inside.words c.self.inside.runs.items c.args.word c.self.invariant.are.fill (omega arith))
 
 pub index-requires : goal.index-requires
@@ -21,6 +24,8 @@ index-requires c = omega (arith, (round (goal.at.index-requires c).After-run_pla
 
 pub returns : goal.returns
 returns c =
-    let r : IsRound c.self.inside.words c.self.inside.runs.items c.args.word c.run_place.result = round (goal.at.returns c).After-run_place in
-    let run : c.index.result.now ≡ run_at c.self.inside.runs.items c.run_place.result = get_or_read c.self.inside.runs.items c.run_place.result c.index.result.now r.within c.index.ensures no_run in
+    let r : IsRound c.self.inside.words c.self.inside.runs.items c.args.word c.run_place.result =
+    round (goal.at.returns c).After-run_place in
+    let run : c.index.result.now ≡ run_at c.self.inside.runs.items c.run_place.result =
+    get_or_read c.self.inside.runs.items c.run_place.result c.index.result.now r.within c.index.ensures no_run in
     rw (← c.self.view_is, run) (sym r.owner)

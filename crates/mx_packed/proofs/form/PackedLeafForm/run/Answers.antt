@@ -9,7 +9,8 @@ run-requires-clause-entry c = spill-entry c.args.line c.args.entry c.args.spille
 
 pub returns-then-entry-eq3 : goal.returns-then-entry-eq3
 returns-then-entry-eq3 c perms left right spill stored =
-    spill-run perms left right spill c.args.line c.args.entry c.args.spilled c.args.word c.run.result stored c.if-entry-eq3.true c.run.ensures
+    spill-run perms left right spill c.args.line c.args.entry c.args.spilled c.args.word c.run.result stored c.if-entry-eq3.true
+    c.run.ensures
 
 pub run_of-run-requires-clause-coded : goal.run_of-run-requires-clause-coded
 run_of-run-requires-clause-coded c =
@@ -26,7 +27,8 @@ run-is c =
 
 can : (c : After-run_of-run) → CanLengthen c.args.line (c.args.entry / 134217728) (c.args.entry / 4194304 % 32) c.run_of-run.result
 can c =
-    can-lengthen c.args.line c.args.entry c.args.spilled c.args.word c.run_of-run.result c.requires.entry c.if-entry-eq3.false c.requires.from c.requires.below (run-is c)
+    can-lengthen c.args.line c.args.entry c.args.spilled c.args.word c.run_of-run.result c.requires.entry c.if-entry-eq3.false
+    c.requires.from c.requires.below (run-is c)
 
 pub lengthen-requires-clause-at : goal.lengthen-requires-clause-at
 lengthen-requires-clause-at c = (can c).at

@@ -9,7 +9,8 @@ use Rattle.mx_plain.proofs.maps.RowWordMap.at.Goals as goal
 pub loop-i-preserved : goal.loop-i-preserved
 loop-i-preserved c =
     let row = c.args.self.now.spans.now in
-    let got : c.get.result ≡ get_or row c.loop-i.i c.get.result = sym (get_or_from_slice_get row c.loop-i.i c.get.result c.get.result c.get.ensures) in
+    let got : c.get.result ≡ get_or row c.loop-i.i c.get.result =
+    sym (get_or_from_slice_get row c.loop-i.i c.get.result c.get.result c.get.ensures) in
     c.laid_at-perm.ensures
     ∙ ap (λ p. laid_at c.args.word p (granted c.get.result)) c.loop-i.invariant
     ∙ ap (λ s. laid_at c.args.word (newest_of (take c.loop-i.i row) c.args.word) (granted s)) got

@@ -12,5 +12,6 @@ pub invariant_of-self : goal.invariant_of-self
 invariant_of-self g c =
     let t = c.args.self.now in
     record {
-      kept = rw c.change_all.ensures (changed_shape g.K.PlainKind.stands_for t.words t.limit t.maps.items c.args.change.now t.kept c.requires.fits);
+      kept = rw c.change_all.ensures (changed_shape g.K.PlainKind.stands_for t.words t.limit t.maps.items c.args.change.now t.kept
+          c.requires.fits);
     }

@@ -10,7 +10,9 @@ invariant_of-result g c =
     let maps = map (row_map c.args.words) c.args.rows.now in
     let r = c.requires in
     let fit : fits kind c.args.limit maps ≡ true =
-    ap (λ k. within (need k maps) c.args.limit) (sym c.kind.ensures) ∙ ap (λ n. within n c.args.limit) (sym c.need_of_rows-need.ensures) ∙ sym c.is_within.ensures ∙ c.if-not-is_within.false in
+    ap (λ k. within (need k maps) c.args.limit) (sym c.kind.ensures) ∙ ap (λ n. within n c.args.limit) (sym c.need_of_rows-need.ensures)
+    ∙ sym c.is_within.ensures ∙ c.if-not-is_within.false in
     record {
-      kept = rw c.in-Ok.ensures (rows_shape kind c.args.words c.args.limit c.args.rows.now r.some_words r.few_words r.some_rows r.few_rows r.limited fit);
+      kept = rw c.in-Ok.ensures (rows_shape kind c.args.words c.args.limit c.args.rows.now r.some_words r.few_words r.some_rows r.few_rows
+          r.limited fit);
     }

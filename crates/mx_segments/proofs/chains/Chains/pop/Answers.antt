@@ -10,7 +10,8 @@ returns-clause-rest c =
     let view : map vec_items vs ≡ c.args.self.now.lists = ap (λ (x : Chained). x.lists) c.self.view_is in
     let within : c.args.row < length vs = omega (arith, length-map vs vec_items, ap length view) in
     let here : vec_items c.index_mut.result.now ≡ list_at c.args.self.now.lists c.args.row =
-    item_list vs c.args.row c.index_mut.result.now within c.index_mut.ensures.value ∙ ap (λ (ls : List (List ℕ)). list_at ls c.args.row) view in
+    item_list vs c.args.row c.index_mut.result.now within c.index_mut.ensures.value
+    ∙ ap (λ (ls : List (List ℕ)). list_at ls c.args.row) view in
     map-set vec_items vs c.args.row c.cut.new.list
     ∙ ap (λ (ls : List (List ℕ)). set ls c.args.row (vec_items c.cut.new.list)) view
     ∙ ap (set c.args.self.now.lists c.args.row) (c.cut.ensures.items ∙ ap (λ (l : List ℕ). take (length l - 1) l) here)

@@ -9,7 +9,8 @@ pub entry_at-requires-clause-row : goal.entry_at-requires-clause-row
 entry_at-requires-clause-row c = let t = c.args.self.now in row_of t.words t.leaf t.chains.lists c.args.domain c.requires
 
 pub entry_at-requires-clause-sound : goal.entry_at-requires-clause-sound
-entry_at-requires-clause-sound c = let t = c.args.self.now in t.kept.sound (c.args.domain - 1) (row_of t.words t.leaf t.chains.lists c.args.domain c.requires)
+entry_at-requires-clause-sound c = let t = c.args.self.now in
+    t.kept.sound (c.args.domain - 1) (row_of t.words t.leaf t.chains.lists c.args.domain c.requires)
 
 pub returns-clause-none : goal.returns-clause-none
 returns-clause-none c =

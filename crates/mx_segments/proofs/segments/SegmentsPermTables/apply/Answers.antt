@@ -8,17 +8,20 @@ use Rattle.mx_segments.proofs.KeptLaws.{changed_maps_in, fit_of}
 use Rattle.mx_segments.proofs.segments.SegmentsPermTables.apply.Goals.{After-change_all}
 use Rattle.mx_segments.proofs.segments.SegmentsPermTables.apply.Goals as goal
 
-maps_changed : (c : After-change_all) → maps_in c.args.self.now.words c.change_all.new.leaf c.change_all.new.chains.lists ≡ changed c.args.change.now (maps_in c.args.self.now.words c.args.self.now.leaf c.args.self.now.chains.lists)
+maps_changed : (c : After-change_all) → maps_in c.args.self.now.words c.change_all.new.leaf c.change_all.new.chains.lists
+    ≡ changed c.args.change.now (maps_in c.args.self.now.words c.args.self.now.leaf c.args.self.now.chains.lists)
 maps_changed c =
     let t = c.args.self.now in
     let change = c.args.change.now in
-    changed_maps_in t.words t.leaf t.chains.lists c.change_all.new.leaf c.change_all.new.chains.lists change.first change.count (given change) c.change_all.ensures.rows c.change_all.ensures.changed
+    changed_maps_in t.words t.leaf t.chains.lists c.change_all.new.leaf c.change_all.new.chains.lists change.first change.count
+    (given change) c.change_all.ensures.rows c.change_all.ensures.changed
 
 pub returns-clause-changed : goal.returns-clause-changed
 returns-clause-changed c =
     let t = c.args.self.now in
     let change = c.args.change.now in
-    changed_maps_in t.words t.leaf t.chains.lists c.change_all.new.leaf c.change_all.new.chains.lists change.first change.count (given change) c.change_all.ensures.rows c.change_all.ensures.changed
+    changed_maps_in t.words t.leaf t.chains.lists c.change_all.new.leaf c.change_all.new.chains.lists change.first change.count
+    (given change) c.change_all.ensures.rows c.change_all.ensures.changed
 
 pub invariant_of-self : goal.invariant_of-self
 invariant_of-self c =
@@ -26,7 +29,8 @@ invariant_of-self c =
     let k = t.kept in
     let e = c.change_all.ensures in
     let need = need_leaf t.words c.change_all.new.leaf c.change_all.new.chains.lists e.sound in
-    let maps : sum_by segment_frames (maps_in t.words c.change_all.new.leaf c.change_all.new.chains.lists) ≡ sum_by segment_frames (changed c.args.change.now (maps_in t.words t.leaf t.chains.lists)) =
+    let maps : sum_by segment_frames (maps_in t.words c.change_all.new.leaf c.change_all.new.chains.lists)
+    ≡ sum_by segment_frames (changed c.args.change.now (maps_in t.words t.leaf t.chains.lists)) =
     ap (λ (ms : List (List Perm)). sum_by segment_frames ms) (maps_changed c) in
     let fit = fit_of (sum_by segment_frames (changed c.args.change.now (maps_in t.words t.leaf t.chains.lists))) t.limit c.requires.fits in
     let some_rows = k.some_rows in

@@ -12,4 +12,5 @@ returns c =
     let change = c.args.change.now in
     let need = need_changed t.words t.leaf t.chains.lists change.first change.count (given change) in
     ap (λ (n : ℕ). nat_le n t.limit.leaf) (c.need_after.ensures ∙ sym need)
-    ∙ sym (within_test (sum_by segment_frames (changed_from change.first change.count (given change) 1 (maps_in t.words t.leaf t.chains.lists))) t.limit)
+    ∙ sym (within_test (sum_by segment_frames (changed_from change.first change.count (given change) 1
+    (maps_in t.words t.leaf t.chains.lists))) t.limit)

@@ -8,7 +8,9 @@ pub perm_in-requires-clause-row : goal.perm_in-requires-clause-row
 perm_in-requires-clause-row c = let t = c.args.self.now in row_of t.words t.leaf t.chains.lists c.args.domain c.requires.domain
 
 pub perm_in-requires-clause-sound : goal.perm_in-requires-clause-sound
-perm_in-requires-clause-sound c = let t = c.args.self.now in t.kept.sound (c.args.domain - 1) (row_of t.words t.leaf t.chains.lists c.args.domain c.requires.domain)
+perm_in-requires-clause-sound c = let t = c.args.self.now in t.kept.sound (c.args.domain - 1)
+    (row_of t.words t.leaf t.chains.lists c.args.domain c.requires.domain)
 
 pub returns : goal.returns
-returns c = let t = c.args.self.now in c.perm_in.ensures ∙ ap (λ (m : List Perm). perm_at m c.args.word) (sym (map_of-maps_in t.words t.leaf t.chains.lists c.args.domain c.requires.domain))
+returns c = let t = c.args.self.now in c.perm_in.ensures ∙ ap (λ (m : List Perm). perm_at m c.args.word)
+    (sym (map_of-maps_in t.words t.leaf t.chains.lists c.args.domain c.requires.domain))

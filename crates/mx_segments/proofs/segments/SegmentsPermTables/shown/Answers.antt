@@ -9,7 +9,9 @@ pub shown_in-requires-clause-row : goal.shown_in-requires-clause-row
 shown_in-requires-clause-row c = let t = c.args.self.now in row_of t.words t.leaf t.chains.lists c.args.domain c.requires.domain
 
 pub shown_in-requires-clause-sound : goal.shown_in-requires-clause-sound
-shown_in-requires-clause-sound c = let t = c.args.self.now in t.kept.sound (c.args.domain - 1) (row_of t.words t.leaf t.chains.lists c.args.domain c.requires.domain)
+shown_in-requires-clause-sound c = let t = c.args.self.now in
+    t.kept.sound (c.args.domain - 1) (row_of t.words t.leaf t.chains.lists c.args.domain c.requires.domain)
 
 pub returns : goal.returns
-returns c = let t = c.args.self.now in c.shown_in.ensures ∙ ap (λ (m : List Perm). stored K.Segments m c.args.word) (sym (map_of-maps_in t.words t.leaf t.chains.lists c.args.domain c.requires.domain))
+returns c = let t = c.args.self.now in c.shown_in.ensures ∙ ap (λ (m : List Perm). stored K.Segments m c.args.word)
+    (sym (map_of-maps_in t.words t.leaf t.chains.lists c.args.domain c.requires.domain))

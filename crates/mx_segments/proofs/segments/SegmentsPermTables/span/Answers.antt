@@ -9,7 +9,9 @@ pub run_in-requires-clause-row : goal.run_in-requires-clause-row
 run_in-requires-clause-row c = let t = c.args.self.now in row_of t.words t.leaf t.chains.lists c.args.domain c.requires.domain
 
 pub run_in-requires-clause-sound : goal.run_in-requires-clause-sound
-run_in-requires-clause-sound c = let t = c.args.self.now in t.kept.sound (c.args.domain - 1) (row_of t.words t.leaf t.chains.lists c.args.domain c.requires.domain)
+run_in-requires-clause-sound c = let t = c.args.self.now in t.kept.sound (c.args.domain - 1)
+    (row_of t.words t.leaf t.chains.lists c.args.domain c.requires.domain)
 
 pub returns : goal.returns
-returns c = let t = c.args.self.now in c.run_in.ensures ∙ ap (λ (m : List Perm). span K.Segments m c.args.word) (sym (map_of-maps_in t.words t.leaf t.chains.lists c.args.domain c.requires.domain))
+returns c = let t = c.args.self.now in c.run_in.ensures ∙ ap (λ (m : List Perm). span K.Segments m c.args.word)
+    (sym (map_of-maps_in t.words t.leaf t.chains.lists c.args.domain c.requires.domain))

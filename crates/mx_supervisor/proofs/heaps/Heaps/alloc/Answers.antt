@@ -11,4 +11,5 @@ returns c = λ may.
     slots-written c.self.inside.slots.items _ (c.args.domain - 1) c.alloc_in.new.slot c.index-as_mut_slice-domain.result c.args.self.now
     (with_block (record { first = c.args.first; count = c.args.words }))
     c.self.view_is c.as_mut_slice.ensures.value (omega (arith, c.requires.domain, c.requires.there))
-    (c.alloc_in.ensures (subst (λ (h : HeapState). may_live h (record { first = c.args.first; count = c.args.words }) ≡ true) (sym heap) may))
+    (c.alloc_in.ensures (subst (λ (h : HeapState). may_live h (record { first = c.args.first; count = c.args.words }) ≡ true) (sym heap)
+    may))

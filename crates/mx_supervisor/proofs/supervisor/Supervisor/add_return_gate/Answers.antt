@@ -11,12 +11,28 @@ returns-then-is_foreign g c = refuses serve_return_gate c.args.call.now _ 2 _ c.
     (λ rest. rw (c.in-Some.ensures.there rest, c.in-Some.ensures.word, c.is_foreign.ensures, c.if-is_foreign.true))
 
 pub returns-then-not-try_gate : goal.returns-then-not-try_gate
-returns-then-not-try_gate g c = refuses-after serve_return_gate c.args.call.now _ _ 9 _ c.requires.sound (c.try_gate.ensures.kept c.if-not-try_gate.true) c.refused-then-not-try_gate.ensures
-    (λ rest. rw (c.in-Some.ensures.there rest, c.in-Some.ensures.word, c.is_foreign.ensures, c.if-is_foreign.false, c.try_gate.ensures.fits, c.if-not-try_gate.true))
+returns-then-not-try_gate g c = refuses-after serve_return_gate c.args.call.now _ _ 9 _ c.requires.sound
+    (c.try_gate.ensures.kept c.if-not-try_gate.true) c.refused-then-not-try_gate.ensures
+    (λ rest. rw (
+      c.in-Some.ensures.there rest,
+      c.in-Some.ensures.word,
+      c.is_foreign.ensures,
+      c.if-is_foreign.false,
+      c.try_gate.ensures.fits,
+      c.if-not-try_gate.true,
+    ))
 
 pub returns : goal.returns
-returns g c = gates-done serve_return_gate c.args.call.now _ _ _ _ c.requires.sound (c.try_gate.ensures.done c.if-not-try_gate.false) c.done.ensures
-    (λ rest. rw (c.in-Some.ensures.there rest, c.in-Some.ensures.word, c.is_foreign.ensures, c.if-is_foreign.false, c.try_gate.ensures.fits, c.if-not-try_gate.false))
+returns g c = gates-done serve_return_gate c.args.call.now _ _ _ _ c.requires.sound (c.try_gate.ensures.done c.if-not-try_gate.false)
+    c.done.ensures
+    (λ rest. rw (
+      c.in-Some.ensures.there rest,
+      c.in-Some.ensures.word,
+      c.is_foreign.ensures,
+      c.if-is_foreign.false,
+      c.try_gate.ensures.fits,
+      c.if-not-try_gate.false,
+    ))
 
 pub arg_word-requires : goal.arg_word-requires
 arg_word-requires g c = search

@@ -1,4 +1,5 @@
-use Rattle.std.proofs.Common.{◌≡◌, ℕ, ◌+◌, ◌*◌, ◌<◌, ◌≤◌, ◌==◌, true, false, ap, arith, length, ◌∙◌, sym, eq-eqb, le_trans, Some, Result, Ok, Err}
+use Rattle.std.proofs.Common.{◌≡◌, ℕ, ◌+◌, ◌*◌, ◌<◌, ◌≤◌, ◌==◌, true, false, ap, arith, length, ◌∙◌, sym, eq-eqb, le_trans, Some, Result}
+use Rattle.std.proofs.Common.{Ok, Err}
 use Rattle.mx_heap.specs.declared.block.HeapError.{HeapError}
 use Rattle.mx_model.specs.Reads.{flat_reads}
 use Rattle.std.proofs.lemmas.Bool.{ne_eqb, le-leb, lt-leb}
@@ -49,7 +50,8 @@ returns-in-Err-NoRoom g c =
     let p = parts_of g.T.PermTables c.args.self.now in
     let none = none-of _ (c.in-Err-NoRoom.ensures.no_room.0 (ap err c.in-Err-NoRoom.field-0-is)) in
     refuses serve_alloc c.args.call.now _ 6 _ c.requires.sound c.refused-in-Err-NoRoom.ensures
-    (λ rest. alloc-none (flat_reads (flat_of rest p)) (core_of rest p) c.args.call.now (ne_eqb _ _ c.if-words-eq0.false) (place-in rest p c.args.call.now ∙ none))
+    (λ rest. alloc-none (flat_reads (flat_of rest p)) (core_of rest p) c.args.call.now (ne_eqb _ _ c.if-words-eq0.false)
+    (place-in rest p c.args.call.now ∙ none))
 
 pub returns-in-Err-BlocksFull : goal.returns-in-Err-BlocksFull
 returns-in-Err-BlocksFull g c =
@@ -57,7 +59,8 @@ returns-in-Err-BlocksFull g c =
     let full = c.in-Err-BlocksFull.ensures.full.0 (ap err c.in-Err-BlocksFull.field-0-is) in
     let some = some_of _ full.0 in
     refuses serve_alloc c.args.call.now _ 7 _ c.requires.sound c.refused-in-Err-BlocksFull.ensures
-    (λ rest. alloc-full (flat_reads (flat_of rest p)) (core_of rest p) c.args.call.now some.0 (ne_eqb _ _ c.if-words-eq0.false) (place-in rest p c.args.call.now ∙ some.1)
+    (λ rest. alloc-full (flat_reads (flat_of rest p)) (core_of rest p) c.args.call.now some.0 (ne_eqb _ _ c.if-words-eq0.false)
+    (place-in rest p c.args.call.now ∙ some.1)
     (le-leb _ _ (full-at _ _ _ (blocks-in rest p c.args.call.now) full.1)))
 
 pub try_change-requires : goal.try_change-requires
@@ -66,13 +69,18 @@ try_change-requires g c =
     let gives = gives-in _ _ _ _ _ _ c.modules.ensures c.own_alone-change.ensures in
     let named : names_range c.args.call.now.number ≡ false = ap names_range c.requires.number in
     let range = range-heap p c.args.call.now named in
-    let low = c.in-Ok.ensures.inside.0 in let high = c.in-Ok.ensures.inside.1 in let area = c.requires.sound.areas c.args.call.now.domain in (
+    let low = c.in-Ok.ensures.inside.0 in
+    let high = c.in-Ok.ensures.inside.1 in
+    let area = c.requires.sound.areas c.args.call.now.domain in (
       assumption c,
       (
         c.requires.announced,
         (
           lawful-of _ _ _ _ _ _ gives (positive _ c.if-words-eq0.false) (le_trans high area),
-          rw range (in-of _ _ _ _ _ ((heap_at p.heaps c.args.call.now.domain).area.first, (heap_at p.heaps c.args.call.now.domain).area.count) gives low high),
+          rw range (in-of _ _ _ _ _ (
+            (heap_at p.heaps c.args.call.now.domain).area.first,
+            (heap_at p.heaps c.args.call.now.domain).area.count,
+          ) gives low high),
         ),
       ),
     )
@@ -82,7 +90,8 @@ returns-then-not-try_change g c =
     let p = parts_of g.T.PermTables c.args.self.now in
     let gives = gives-in _ _ _ _ _ _ c.modules.ensures c.own_alone-change.ensures in
     let below = not-full _ _ c.in-Ok.first c.in-Ok.ensures.few c.in-Ok.ensures.ok (λ h. not-err _ (c.in-Ok.ensures.full.1 h)) in
-    refuses-after serve_alloc c.args.call.now _ _ 5 _ c.requires.sound (c.try_change.ensures.kept c.if-not-try_change.true) c.refused-then-not-try_change.ensures
+    refuses-after serve_alloc c.args.call.now _ _ 5 _ c.requires.sound (c.try_change.ensures.kept c.if-not-try_change.true)
+    c.refused-then-not-try_change.ensures
     (λ rest. alloc-unfit (flat_reads (flat_of rest p)) (core_of rest p) c.args.call.now c.in-Ok.first (ne_eqb _ _ c.if-words-eq0.false)
     (place-in rest p c.args.call.now ∙ c.in-Ok.ensures.ok)
     (lt-leb _ _ (room-at _ _ _ (blocks-in rest p c.args.call.now) below))
@@ -96,7 +105,8 @@ alloc-requires-clause-there g c =
 pub clear_words-requires : goal.clear_words-requires
 clear_words-requires g c =
     let q = c.try_change.ensures.done _ _ _ (gives-in _ _ _ _ _ _ c.modules.ensures c.own_alone-change.ensures) c.if-not-try_change.false in
-    words-in _ _ _ _ _ (ap (λ (x : Parts). length x.ram) q) c.requires.sound.ram (le_trans c.in-Ok.ensures.inside.1 (c.requires.sound.areas c.args.call.now.domain))
+    words-in _ _ _ _ _ (ap (λ (x : Parts). length x.ram) q) c.requires.sound.ram
+    (le_trans c.in-Ok.ensures.inside.1 (c.requires.sound.areas c.args.call.now.domain))
 
 pub returns : goal.returns
 returns g c =
@@ -107,15 +117,20 @@ returns g c =
     let below = not-full _ _ c.in-Ok.first c.in-Ok.ensures.few c.in-Ok.ensures.ok (λ h. not-err _ (c.in-Ok.ensures.full.1 h)) in
     let same = ap (λ (x : Parts). x.heaps) made in
     let few : length (heap_at q.heaps c.args.call.now.domain).blocks < most_blocks = rw same below in
-    let found : room_in (heap_at q.heaps c.args.call.now.domain) (arg c.args.call.now 0) ≡ Some c.in-Ok.first = ap (λ hs. place (heap_at hs c.args.call.now.domain).area (heap_at hs c.args.call.now.domain).blocks (arg c.args.call.now 0)) same ∙ c.in-Ok.ensures.ok in
+    let found : room_in (heap_at q.heaps c.args.call.now.domain) (arg c.args.call.now 0) ≡ Some c.in-Ok.first =
+    ap (λ hs. place (heap_at hs c.args.call.now.domain).area (heap_at hs c.args.call.now.domain).blocks (arg c.args.call.now 0)) same
+    ∙ c.in-Ok.ensures.ok in
     let some : 0 < arg c.args.call.now 0 = positive _ c.if-words-eq0.false in
     let may = found-live (heap_at q.heaps c.args.call.now.domain) (arg c.args.call.now 0) c.in-Ok.first some found few in
-    alloc-done c.args.call.now p q (record q { heaps = c.alloc.new.self; ram = c.clear_words.new.self }) c.in-Ok.first (own_alone c.args.call.now.domain) c.done.result c.requires.sound
+    alloc-done c.args.call.now p q (record q { heaps = c.alloc.new.self; ram = c.clear_words.new.self }) c.in-Ok.first
+    (own_alone c.args.call.now.domain) c.done.result c.requires.sound
     (low-at _ _ _ _ (le_trans c.in-Ok.ensures.inside.1 (c.requires.sound.areas c.args.call.now.domain)) c.requires.sound.few_words)
-    (let ram = ap (λ (x : Parts). x.ram) made in sym (ap (λ bs. length (cleared_at bs (4 * c.in-Ok.first) (4 * arg c.args.call.now 0))) ram) ∙ sym (ap length c.clear_words.ensures.bytes) ∙ c.clear_words.ensures.size ∙ ap length ram)
+    (let ram = ap (λ (x : Parts). x.ram) made in sym (ap (λ bs. length (cleared_at bs (4 * c.in-Ok.first) (4 * arg c.args.call.now 0))) ram)
+    ∙ sym (ap length c.clear_words.ensures.bytes) ∙ c.clear_words.ensures.size ∙ ap length ram)
     made
     (ap (λ hs. record q { heaps = hs; ram = c.clear_words.new.self }) (c.alloc.ensures may) ∙ ap (λ bs. record q {
-      heaps = with_blocks_at c.args.call.now.domain (with_block (record { first = c.in-Ok.first; count = arg c.args.call.now 0 }) (heap_at q.heaps c.args.call.now.domain).blocks) q.heaps;
+      heaps = with_blocks_at c.args.call.now.domain (with_block (record { first = c.in-Ok.first; count = arg c.args.call.now 0 })
+          (heap_at q.heaps c.args.call.now.domain).blocks) q.heaps;
       ram = bs;
     }) c.clear_words.ensures.bytes)
     c.done.ensures

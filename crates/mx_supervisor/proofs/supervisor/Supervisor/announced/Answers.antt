@@ -5,7 +5,8 @@ use Rattle.mx_supervisor.proofs.Announcing.{range-within}
 use Rattle.mx_supervisor.proofs.supervisor.Supervisor.announced.Goals as goal
 
 pub announced_range-requires-clause-words : goal.announced_range-requires-clause-words
-announced_range-requires-clause-words g c = let few = (g.met.T.PermTables.shaped c.tables.result.now).few_words in omega (arith, c.words-words.ensures, few)
+announced_range-requires-clause-words g c = let few = (g.met.T.PermTables.shaped c.tables.result.now).few_words in
+    omega (arith, c.words-words.ensures, few)
 
 pub returns-clause-range : goal.returns-clause-range
 returns-clause-range g c =

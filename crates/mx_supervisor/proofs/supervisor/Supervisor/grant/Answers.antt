@@ -28,14 +28,25 @@ returns-in_default-from_number g c = refuses serve_grant c.args.call.now _ 4 _ c
 
 pub returns-then-not-owns : goal.returns-then-not-owns
 returns-then-not-owns g c = refuses serve_grant c.args.call.now _ 2 _ c.requires.sound c.refused-then-not-owns.ensures
-    (λ rest. let small : nat_lt 3 (arg c.args.call.now 3) ≡ false = upto _ c.in-Some-from_number.perm c.in-Some-from_number.ensures.above.1 in
-    rw (c.in-Some.ensures.there rest, c.is_module.ensures.module rest, c.if-not-is_module.false, small, c.in-Some.ensures.range rest, c.owns.ensures rest, c.if-not-owns.true))
+    (λ rest. let small : nat_lt 3 (arg c.args.call.now 3) ≡ false =
+    upto _ c.in-Some-from_number.perm c.in-Some-from_number.ensures.above.1 in
+    rw (
+      c.in-Some.ensures.there rest,
+      c.is_module.ensures.module rest,
+      c.if-not-is_module.false,
+      small,
+      c.in-Some.ensures.range
+          rest,
+      c.owns.ensures rest,
+      c.if-not-owns.true,
+    ))
 
 pub try_change-requires : goal.try_change-requires
 try_change-requires g c =
     let gives = c.to_one-change.ensures _ (c.is_module.ensures.domain.0 c.if-not-is_module.false).last in
     let named : names_range c.args.call.now.number ≡ true = ap names_range c.requires.number in
-    let range = range-named (parts_of g.T.PermTables c.args.self.now) c.args.call.now (c.in-Some.first, c.in-Some.count) named c.in-Some.ensures.range in (
+    let range = range-named (parts_of g.T.PermTables c.args.self.now) c.args.call.now (c.in-Some.first, c.in-Some.count) named
+    c.in-Some.ensures.range in (
       assumption c,
       (
         c.requires.announced,
@@ -49,8 +60,10 @@ try_change-requires g c =
 pub returns-then-not-try_change : goal.returns-then-not-try_change
 returns-then-not-try_change g c =
     let gives = c.to_one-change.ensures _ (c.is_module.ensures.domain.0 c.if-not-is_module.false).last in
-    refuses-after serve_grant c.args.call.now _ _ 5 _ c.requires.sound (c.try_change.ensures.kept c.if-not-try_change.true) c.refused-then-not-try_change.ensures
-    (λ rest. let small : nat_lt 3 (arg c.args.call.now 3) ≡ false = upto _ c.in-Some-from_number.perm c.in-Some-from_number.ensures.above.1 in
+    refuses-after serve_grant c.args.call.now _ _ 5 _ c.requires.sound (c.try_change.ensures.kept c.if-not-try_change.true)
+    c.refused-then-not-try_change.ensures
+    (λ rest. let small : nat_lt 3 (arg c.args.call.now 3) ≡ false =
+    upto _ c.in-Some-from_number.perm c.in-Some-from_number.ensures.above.1 in
     rw (
       c.in-Some.ensures.there rest,
       c.is_module.ensures.module rest,
@@ -67,8 +80,10 @@ returns-then-not-try_change g c =
 pub returns : goal.returns
 returns g c =
     let gives = c.to_one-change.ensures _ (c.is_module.ensures.domain.0 c.if-not-is_module.false).last in
-    changes-done serve_grant c.args.call.now _ _ _ _ _ _ c.requires.sound (c.try_change.ensures.done _ _ _ gives c.if-not-try_change.false) c.done.ensures
-    (λ rest. let small : nat_lt 3 (arg c.args.call.now 3) ≡ false = upto _ c.in-Some-from_number.perm c.in-Some-from_number.ensures.above.1 in
+    changes-done serve_grant c.args.call.now _ _ _ _ _ _ c.requires.sound (c.try_change.ensures.done _ _ _ gives c.if-not-try_change.false)
+    c.done.ensures
+    (λ rest. let small : nat_lt 3 (arg c.args.call.now 3) ≡ false =
+    upto _ c.in-Some-from_number.perm c.in-Some-from_number.ensures.above.1 in
     rw (
       c.in-Some.ensures.there rest,
       c.is_module.ensures.module rest,

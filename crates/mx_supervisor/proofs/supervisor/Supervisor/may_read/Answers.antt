@@ -13,7 +13,8 @@ loop-word-preserved g c =
     let all = range_with_len c.args.first (c.args.behind - c.args.first) in
     let w = c.loop-word.word in
     let read : HasReadTo c.args.call.now all (w ∷ range_with_len (w + 1) (c.args.behind - (w + 1))) old now =
-    subst (λ (ws : List ℕ). HasReadTo c.args.call.now all ws old now) (range-step w c.args.behind c.loop-word-test.true) c.loop-word.invariant in
+    subst (λ (ws : List ℕ). HasReadTo c.args.call.now all ws old now) (range-step w c.args.behind c.loop-word-test.true)
+    c.loop-word.invariant in
     read-more c.args.call.now w all _ old now _ read c.look.ensures.looked (c.look.ensures.answer ∙ c.if-not-look.false)
 
 pub returns-then-not-look-clause-read : goal.returns-then-not-look-clause-read
@@ -23,7 +24,8 @@ returns-then-not-look-clause-read g c =
     let all = range_with_len c.args.first (c.args.behind - c.args.first) in
     let w = c.loop-word.word in
     let read : HasReadTo c.args.call.now all (w ∷ range_with_len (w + 1) (c.args.behind - (w + 1))) old now =
-    subst (λ (ws : List ℕ). HasReadTo c.args.call.now all ws old now) (range-step w c.args.behind c.loop-word-test.true) c.loop-word.invariant in
+    subst (λ (ws : List ℕ). HasReadTo c.args.call.now all ws old now) (range-step w c.args.behind c.loop-word-test.true)
+    c.loop-word.invariant in
     (read-stop c.args.call.now w all _ old now _ read c.look.ensures.looked (c.look.ensures.answer ∙ c.if-not-look.true)).0
 
 pub returns-then-not-look-clause-answer : goal.returns-then-not-look-clause-answer
@@ -33,7 +35,8 @@ returns-then-not-look-clause-answer g c = λ rest.
     let all = range_with_len c.args.first (c.args.behind - c.args.first) in
     let w = c.loop-word.word in
     let read : HasReadTo c.args.call.now all (w ∷ range_with_len (w + 1) (c.args.behind - (w + 1))) old now =
-    subst (λ (ws : List ℕ). HasReadTo c.args.call.now all ws old now) (range-step w c.args.behind c.loop-word-test.true) c.loop-word.invariant in
+    subst (λ (ws : List ℕ). HasReadTo c.args.call.now all ws old now) (range-step w c.args.behind c.loop-word-test.true)
+    c.loop-word.invariant in
     (read-stop c.args.call.now w all _ old now _ read c.look.ensures.looked (c.look.ensures.answer ∙ c.if-not-look.true)).1
 
 pub loop-word-init : goal.loop-word-init

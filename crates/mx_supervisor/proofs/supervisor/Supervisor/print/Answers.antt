@@ -1,4 +1,5 @@
-use Rattle.std.proofs.Common.{◌≡◌, ℕ, ◌+◌, ◌-◌, ◌<◌, ◌≤◌, List, [], ◌∷◌, ◌++◌, length, take, drop, slice_index, ap, ◌∙◌, arith, length-take, length-drop, get_or-drop}
+use Rattle.std.proofs.Common.{◌≡◌, ℕ, ◌+◌, ◌-◌, ◌<◌, ◌≤◌, List, [], ◌∷◌, ◌++◌, length, take, drop, slice_index, ap, ◌∙◌, arith, length-take}
+use Rattle.std.proofs.Common.{length-drop, get_or-drop}
 use Rattle.std.proofs.lemmas.List.{take_more}
 use Rattle.mx_supervisor.proofs.supervisor.Supervisor.print.Goals as goal
 

@@ -21,7 +21,15 @@ returns-then-not-is_module g c = refuses serve_query c.args.call.now _ 3 _ c.req
 
 pub returns-then-is_secret : goal.returns-then-is_secret
 returns-then-is_secret g c = refuses serve_query c.args.call.now _ 2 _ c.requires.sound c.refused-then-is_secret.ensures
-    (λ rest. rw (c.in-Some.ensures.there rest, c.is_module.ensures.module rest, c.if-not-is_module.false, c.in-Some.ensures.word, c.is_secret.ensures, c.if-is_secret.true))
+    (λ rest. rw (
+      c.in-Some.ensures.there rest,
+      c.is_module.ensures.module
+          rest,
+      c.if-not-is_module.false,
+      c.in-Some.ensures.word,
+      c.is_secret.ensures,
+      c.if-is_secret.true,
+    ))
 
 pub returns : goal.returns
 returns g c = told serve_query c.args.call.now _ _ _ c.requires.sound c.done.ensures
@@ -33,8 +41,17 @@ returns g c = told serve_query c.args.call.now _ _ _ c.requires.sound c.done.ens
     let size = g.T.PermTables.size tables in
     let there : IsDomain maps d = c.is_module.ensures.domain.0 c.if-not-is_module.false in
     let same : number (perm_at (map_in size maps d) c.in-Some.word) ≡ c.number.result =
-    ap (λ (m : List Perm). number (perm_at m c.in-Some.word)) (map-in size maps d there) ∙ sym (c.number.ensures ∙ ap number c.perm.ensures) in
-    rw (c.in-Some.ensures.there rest, c.is_module.ensures.module rest, c.if-not-is_module.false, c.in-Some.ensures.word, c.is_secret.ensures, c.if-is_secret.false)
+    ap (λ (m : List Perm). number (perm_at m c.in-Some.word)) (map-in size maps d there)
+    ∙ sym (c.number.ensures ∙ ap number c.perm.ensures) in
+    rw (
+      c.in-Some.ensures.there rest,
+      c.is_module.ensures.module
+          rest,
+      c.if-not-is_module.false,
+      c.in-Some.ensures.word,
+      c.is_secret.ensures,
+      c.if-is_secret.false,
+    )
     (ap (answers (core_of rest (parts_of g.T.PermTables s))) same))
 
 pub is_module-requires : goal.is_module-requires

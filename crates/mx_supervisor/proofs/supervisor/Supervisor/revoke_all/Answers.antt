@@ -32,7 +32,8 @@ try_change-requires g c =
 
 pub returns-then-not-try_change : goal.returns-then-not-try_change
 returns-then-not-try_change g c =
-    refuses-after serve_revoke_all c.args.call.now _ _ 5 _ c.requires.sound (c.try_change.ensures.kept c.if-not-try_change.true) c.refused-then-not-try_change.ensures
+    refuses-after serve_revoke_all c.args.call.now _ _ 5 _ c.requires.sound (c.try_change.ensures.kept c.if-not-try_change.true)
+    c.refused-then-not-try_change.ensures
     (λ rest. rw (
       c.in-Some.ensures.there rest,
       c.in-Some.ensures.range rest,
@@ -44,7 +45,9 @@ returns-then-not-try_change g c =
 
 pub returns : goal.returns
 returns g c =
-    changes-done serve_revoke_all c.args.call.now _ _ _ _ _ _ c.requires.sound (c.try_change.ensures.done _ _ _ (gives-in _ _ _ _ _ _ c.modules.ensures c.none_but-change.ensures) c.if-not-try_change.false) c.done.ensures
+    changes-done serve_revoke_all c.args.call.now _ _ _ _ _ _ c.requires.sound
+    (c.try_change.ensures.done _ _ _ (gives-in _ _ _ _ _ _ c.modules.ensures c.none_but-change.ensures) c.if-not-try_change.false)
+    c.done.ensures
     (λ rest. rw (
       c.in-Some.ensures.there rest,
       c.in-Some.ensures.range rest,

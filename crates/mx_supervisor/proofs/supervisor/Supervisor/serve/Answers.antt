@@ -13,13 +13,20 @@ use Rattle.mx_supervisor.proofs.supervisor.Supervisor.serve.Goals as goal
 
 pub serve_row-answer-requires : goal.serve_row-answer-requires
 serve_row-answer-requires g c =
-    let p = parts_of g.T.PermTables c.args.self.now in
-    (assumption c, (sound-joined p (g.met.T.PermTables.shaped c.args.self.now.checker.tables) c.requires.joined, (c.requires.domain, (c.requires.may, c.requires.empty))))
+    let p = parts_of g.T.PermTables c.args.self.now in (
+      assumption c,
+      (
+        sound-joined p (g.met.T.PermTables.shaped c.args.self.now.checker.tables)
+            c.requires.joined,
+        (c.requires.domain, (c.requires.may, c.requires.empty)),
+      ),
+    )
 
 pub finish-requires : goal.finish-requires
 finish-requires g c =
     let call = c.args.call.now in
-    let was : HasAnnounced (parts_of g.T.PermTables c.args.self.now) call = c.requires.may.announced (sym c.is_announced.ensures ∙ c.if-is_announced.true) in
+    let was : HasAnnounced (parts_of g.T.PermTables c.args.self.now) call =
+    c.requires.may.announced (sym c.is_announced.ensures ∙ c.if-is_announced.true) in
     let keeps = c.serve_row-answer.ensures.does.harts in
     let old = c.args.self.now.checker.harts in
     let now = c.serve_row-answer.new.self.checker.harts in
@@ -33,7 +40,8 @@ returns-then-is_announced-clause-served g c =
     let p = parts_of g.T.PermTables c.args.self.now in
     let q = parts_of g.T.PermTables c.serve_row-answer.new.self in
     let is : is_announced call.number ≡ true = sym c.is_announced.ensures ∙ c.if-is_announced.true in
-    let m : Meets serve call (flight_after call p.harts) p (record q { harts = at_hart call.hart finished q.harts }) c.serve_row-answer.new.out.bytes c.serve_row-answer.result =
+    let m : Meets serve call (flight_after call p.harts) p (record q { harts = at_hart call.hart finished q.harts })
+    c.serve_row-answer.new.out.bytes c.serve_row-answer.result =
     ended-meets call p q _ _ is (c.requires.may.announced is) c.serve_row-answer.ensures.does in
     rw c.finish.ensures m.served
 
@@ -43,7 +51,8 @@ returns-then-is_announced-clause-refused g c =
     let p = parts_of g.T.PermTables c.args.self.now in
     let q = parts_of g.T.PermTables c.serve_row-answer.new.self in
     let is : is_announced call.number ≡ true = sym c.is_announced.ensures ∙ c.if-is_announced.true in
-    let m : Meets serve call (flight_after call p.harts) p (record q { harts = at_hart call.hart finished q.harts }) c.serve_row-answer.new.out.bytes c.serve_row-answer.result =
+    let m : Meets serve call (flight_after call p.harts) p (record q { harts = at_hart call.hart finished q.harts })
+    c.serve_row-answer.new.out.bytes c.serve_row-answer.result =
     ended-meets call p q _ _ is (c.requires.may.announced is) c.serve_row-answer.ensures.does in
     rw c.finish.ensures m.refused
 
@@ -53,7 +62,8 @@ returns-then-is_announced-clause-harts g c =
     let p = parts_of g.T.PermTables c.args.self.now in
     let q = parts_of g.T.PermTables c.serve_row-answer.new.self in
     let is : is_announced call.number ≡ true = sym c.is_announced.ensures ∙ c.if-is_announced.true in
-    let m : Meets serve call (flight_after call p.harts) p (record q { harts = at_hart call.hart finished q.harts }) c.serve_row-answer.new.out.bytes c.serve_row-answer.result =
+    let m : Meets serve call (flight_after call p.harts) p (record q { harts = at_hart call.hart finished q.harts })
+    c.serve_row-answer.new.out.bytes c.serve_row-answer.result =
     ended-meets call p q _ _ is (c.requires.may.announced is) c.serve_row-answer.ensures.does in
     rw c.finish.ensures m.harts
 
@@ -63,7 +73,8 @@ returns-then-is_announced-clause-sound g c =
     let p = parts_of g.T.PermTables c.args.self.now in
     let q = parts_of g.T.PermTables c.serve_row-answer.new.self in
     let is : is_announced call.number ≡ true = sym c.is_announced.ensures ∙ c.if-is_announced.true in
-    let m : Meets serve call (flight_after call p.harts) p (record q { harts = at_hart call.hart finished q.harts }) c.serve_row-answer.new.out.bytes c.serve_row-answer.result =
+    let m : Meets serve call (flight_after call p.harts) p (record q { harts = at_hart call.hart finished q.harts })
+    c.serve_row-answer.new.out.bytes c.serve_row-answer.result =
     ended-meets call p q _ _ is (c.requires.may.announced is) c.serve_row-answer.ensures.does in
     rw c.finish.ensures m.sound
 
@@ -73,7 +84,8 @@ returns-else-is_announced-clause-served g c =
 
 pub returns-else-is_announced-clause-again : goal.returns-else-is_announced-clause-again
 returns-else-is_announced-clause-again g c = λ may.
-    may-again c.args.call.now _ c.args.self.now.checker.harts c.serve_row-answer.new.self.checker.harts refl c.serve_row-answer.ensures.does.harts may
+    may-again c.args.call.now _ c.args.self.now.checker.harts c.serve_row-answer.new.self.checker.harts refl
+    c.serve_row-answer.ensures.does.harts may
 
 pub returns-then-is_announced-clause-sizes : goal.returns-then-is_announced-clause-sizes
 returns-then-is_announced-clause-sizes g c =

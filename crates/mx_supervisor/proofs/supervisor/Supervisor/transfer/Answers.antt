@@ -22,19 +22,82 @@ returns-then-meets_heap g c = refuses serve_transfer c.args.call.now _ 1 _ c.req
 
 pub returns-then-domain-modules : goal.returns-then-domain-modules
 returns-then-domain-modules g c = refuses serve_transfer c.args.call.now _ 3 _ c.requires.sound c.refused-then-domain-modules.ensures
-    (λ rest. let many : nat_lt (length (g.T.PermTables.maps c.args.self.now.checker.tables)) (arg c.args.call.now 2) ≡ true = above _ _ _ c.modules.ensures c.if-domain-modules.true in rw (c.in-Some.ensures.there rest, module-heap, c.in-Some.ensures.range rest, c.meets_heap.ensures, c.if-meets_heap.false, length-modules, c.requires.sound.heaps, many))
+    (λ rest. let many : nat_lt (length (g.T.PermTables.maps c.args.self.now.checker.tables)) (arg c.args.call.now 2) ≡ true =
+    above _ _ _ c.modules.ensures c.if-domain-modules.true in
+    rw (
+      c.in-Some.ensures.there rest,
+      module-heap,
+      c.in-Some.ensures.range
+          rest,
+      c.meets_heap.ensures,
+      c.if-meets_heap.false,
+      length-modules,
+      c.requires.sound.heaps,
+      many,
+    ))
 
 pub returns-then-not-owns : goal.returns-then-not-owns
 returns-then-not-owns g c = refuses serve_transfer c.args.call.now _ 2 _ c.requires.sound c.refused-then-not-owns.ensures
-    (λ rest. let few : nat_lt (length (g.T.PermTables.maps c.args.self.now.checker.tables)) (arg c.args.call.now 2) ≡ false = below _ _ _ c.modules.ensures c.if-domain-modules.false in rw (c.in-Some.ensures.there rest, module-heap, c.in-Some.ensures.range rest, c.meets_heap.ensures, c.if-meets_heap.false, length-modules, c.requires.sound.heaps, few, c.owns.ensures rest, c.if-not-owns.true))
+    (λ rest. let few : nat_lt (length (g.T.PermTables.maps c.args.self.now.checker.tables)) (arg c.args.call.now 2) ≡ false =
+    below _ _ _ c.modules.ensures c.if-domain-modules.false in
+    rw (
+      c.in-Some.ensures.there rest,
+      module-heap,
+      c.in-Some.ensures.range
+          rest,
+      c.meets_heap.ensures,
+      c.if-meets_heap.false,
+      length-modules,
+      c.requires.sound.heaps,
+      few,
+      c.owns.ensures
+          rest,
+      c.if-not-owns.true,
+    ))
 
 pub returns-then-not-try_give : goal.returns-then-not-try_give
-returns-then-not-try_give g c = refuses-after serve_transfer c.args.call.now _ _ 14 _ c.requires.sound (c.try_give.ensures.kept c.if-not-try_give.true) c.refused-then-not-try_give.ensures
-    (λ rest. let few : nat_lt (length (g.T.PermTables.maps c.args.self.now.checker.tables)) (arg c.args.call.now 2) ≡ false = below _ _ _ c.modules.ensures c.if-domain-modules.false in rw (c.in-Some.ensures.there rest, module-heap, c.in-Some.ensures.range rest, c.meets_heap.ensures, c.if-meets_heap.false, length-modules, c.requires.sound.heaps, few, c.owns.ensures rest, c.if-not-owns.false, c.try_give.ensures.fits rest, c.if-not-try_give.true))
+returns-then-not-try_give g c = refuses-after serve_transfer c.args.call.now _ _ 14 _ c.requires.sound
+    (c.try_give.ensures.kept c.if-not-try_give.true) c.refused-then-not-try_give.ensures
+    (λ rest. let few : nat_lt (length (g.T.PermTables.maps c.args.self.now.checker.tables)) (arg c.args.call.now 2) ≡ false =
+    below _ _ _ c.modules.ensures c.if-domain-modules.false in
+    rw (
+      c.in-Some.ensures.there rest,
+      module-heap,
+      c.in-Some.ensures.range
+          rest,
+      c.meets_heap.ensures,
+      c.if-meets_heap.false,
+      length-modules,
+      c.requires.sound.heaps,
+      few,
+      c.owns.ensures
+          rest,
+      c.if-not-owns.false,
+      c.try_give.ensures.fits rest,
+      c.if-not-try_give.true,
+    ))
 
 pub returns : goal.returns
-returns g c = give-done serve_transfer c.args.call.now _ _ _ _ c.requires.sound (c.try_give.ensures.done c.if-not-try_give.false) c.done.ensures
-    (λ rest. let few : nat_lt (length (g.T.PermTables.maps c.args.self.now.checker.tables)) (arg c.args.call.now 2) ≡ false = below _ _ _ c.modules.ensures c.if-domain-modules.false in rw (c.in-Some.ensures.there rest, module-heap, c.in-Some.ensures.range rest, c.meets_heap.ensures, c.if-meets_heap.false, length-modules, c.requires.sound.heaps, few, c.owns.ensures rest, c.if-not-owns.false, c.try_give.ensures.fits rest, c.if-not-try_give.false))
+returns g c = give-done serve_transfer c.args.call.now _ _ _ _ c.requires.sound (c.try_give.ensures.done c.if-not-try_give.false)
+    c.done.ensures
+    (λ rest. let few : nat_lt (length (g.T.PermTables.maps c.args.self.now.checker.tables)) (arg c.args.call.now 2) ≡ false =
+    below _ _ _ c.modules.ensures c.if-domain-modules.false in
+    rw (
+      c.in-Some.ensures.there rest,
+      module-heap,
+      c.in-Some.ensures.range
+          rest,
+      c.meets_heap.ensures,
+      c.if-meets_heap.false,
+      length-modules,
+      c.requires.sound.heaps,
+      few,
+      c.owns.ensures
+          rest,
+      c.if-not-owns.false,
+      c.try_give.ensures.fits rest,
+      c.if-not-try_give.false,
+    ))
 
 pub meets_heap-requires : goal.meets_heap-requires
 meets_heap-requires g c = (assumption c, c.requires.domain)

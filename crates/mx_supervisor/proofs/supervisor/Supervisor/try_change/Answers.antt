@@ -4,7 +4,14 @@ use Rattle.mx_supervisor.proofs.Changing.{may-change, changed-as, fits-as, on-ok
 use Rattle.mx_supervisor.proofs.supervisor.Supervisor.try_change.Goals as goal
 
 pub change-requires : goal.change-requires
-change-requires g c = (omega arith, (may-change _ c.args.call.now c.args.change.now c.requires.announced c.requires.inside, c.requires.lawful))
+change-requires g c = (
+  omega arith,
+  (
+    may-change _ c.args.call.now c.args.change.now c.requires.announced
+        c.requires.inside,
+    c.requires.lawful,
+  ),
+)
 
 pub returns-clause-fits : goal.returns-clause-fits
 returns-clause-fits g c = λ first count given gives.

@@ -45,9 +45,11 @@ returns-then-not-may_read-clause-does g c =
     let p = parts_of g.T.PermTables c.args.self.now in
     let bytes : AreBytes (arg c.args.call.now 0) (arg c.args.call.now 1) p.size =
     are-bytes _ _ _ c.if-count-gt-BYTES.false (positive _ c.if-count-eq0.false) (c.is_outside.ensures ∙ c.if-is_outside.false) in
-    harts-alone serve_write c.args.call.now p _ _ _ c.requires.sound c.may_read.ensures.read.same c.may_read.ensures.read.harts (λ e. c.requires.empty)
+    harts-alone serve_write c.args.call.now p _ _ _ c.requires.sound c.may_read.ensures.read.same c.may_read.ensures.read.harts (λ e.
+    c.requires.empty)
     (λ rest bars. rw c.refused-then-not-may_read.ensures (looks-served rest p _ (code 12) _ _ c.may_read.ensures.read.same
-    (write-denied (flat_reads (flat_of rest p)) (core_of rest p) c.args.call.now _ (is-write (core_of rest p) c.args.call.now bytes) (c.may_read.ensures.answer rest ∙ c.if-not-may_read.true)
+    (write-denied (flat_reads (flat_of rest p)) (core_of rest p) c.args.call.now _ (is-write (core_of rest p) c.args.call.now bytes)
+    (c.may_read.ensures.answer rest ∙ c.if-not-may_read.true)
     ∙ ap (λ (s : Core). answers s (code 12)) (sym (c.may_read.ensures.read.core rest bars)))
     c.requires.empty))
 
@@ -70,8 +72,10 @@ returns-clause-does g c =
     harts-alone serve_write call p _ _ _ c.requires.sound same c.may_read.ensures.read.harts
     (λ e. absurd (small-answer _ _ c.done-2.ensures bytes.few e))
     (λ rest bars. rw (c.done-2.ensures, c.print.ensures) (written-served rest p _ _ _ _ _ same
-    (write-done (flat_reads (flat_of rest p)) (core_of rest p) call _ (is-write (core_of rest p) call bytes) (c.may_read.ensures.answer rest ∙ c.if-not-may_read.false)
-    ∙ ap (λ (s : Core). record (answers s (arg call 1)) { console = bytes_at (core_of rest p) (arg call 0) (arg call 1) }) (sym (c.may_read.ensures.read.core rest bars)))
+    (write-done (flat_reads (flat_of rest p)) (core_of rest p) call _ (is-write (core_of rest p) call bytes) (c.may_read.ensures.answer rest
+    ∙ c.if-not-may_read.false)
+    ∙ ap (λ (s : Core). record (answers s (arg call 1)) { console = bytes_at (core_of rest p) (arg call 0) (arg call 1) })
+    (sym (c.may_read.ensures.read.core rest bars)))
     (ap (λ (q : Parts). take (arg call 1) (drop (arg call 0 - ram_base) q.ram)) same)))
 
 pub overflow_sub-first : goal.overflow_sub-first

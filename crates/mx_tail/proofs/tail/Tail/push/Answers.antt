@@ -5,7 +5,8 @@ use Rattle.mx_tail.proofs.tail.Tail.push.Goals as goal
 
 pub returns-then-len-lt-PIECE-clause-adds : goal.returns-then-len-lt-PIECE-clause-adds
 returns-then-len-lt-PIECE-clause-adds g c =
-    rw (← c.self.view_is) (push_held c.self.inside.bytes.items c.args.byte c.push.new.self.items _ c.push.ensures.items (omega (arith, c.len.ensures.value, c.if-len-lt-PIECE.true)))
+    rw (← c.self.view_is) (push_held c.self.inside.bytes.items c.args.byte c.push.new.self.items _ c.push.ensures.items
+    (omega (arith, c.len.ensures.value, c.if-len-lt-PIECE.true)))
 
 pub returns-clause-adds : goal.returns-clause-adds
 returns-clause-adds g c =

@@ -11,4 +11,5 @@ returns-else-word-self g c =
     let v = c.args.self.now in
     let above : v.first + v.count ≤ c.args.word =
     elim c.requires.outside [ inl h ↦ absurd (omega (arith, h, c.if-word-self.false)) | inr h ↦ h ] in
-    behind-round (g.V.View.map v.under.now) v.first v.count v.perm c.requires.inside c.requires.few c.args.word c.args.span c.max-first.result c.requires.round above c.max-first.ensures
+    behind-round (g.V.View.map v.under.now) v.first v.count v.perm c.requires.inside c.requires.few c.args.word c.args.span
+    c.max-first.result c.requires.round above c.max-first.ensures

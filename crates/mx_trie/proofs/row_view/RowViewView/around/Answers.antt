@@ -15,11 +15,14 @@ overflow_add-behind c =
 pub returns-then-word-behind : goal.returns-then-word-behind
 returns-then-word-behind c =
     let v = c.args.self.now in
-    span-round v.words v.row.now c.requires.lawful.0 c.args.word c.spans_up_to-next.result c.requires.lawful.1 c.requires.word c.spans_up_to-next.ensures c.get-span.result (omega (arith, c.if-next-eq0.false))
+    span-round v.words v.row.now c.requires.lawful.0 c.args.word c.spans_up_to-next.result c.requires.lawful.1 c.requires.word
+    c.spans_up_to-next.ensures c.get-span.result (omega (arith, c.if-next-eq0.false))
     (got v.row.now (c.spans_up_to-next.result - 1) c.get-span.result no_span c.get-span.ensures) c.if-word-behind.true
 
 pub returns-else-word-behind : goal.returns-else-word-behind
 returns-else-word-behind c =
     let v = c.args.self.now in
-    gap-round v.words v.row.now c.requires.lawful.0 c.args.word c.spans_up_to-next.result c.requires.lawful.1 c.requires.word c.spans_up_to-next.ensures c.get-span.result c.begin_of-end.result (omega (arith, c.if-next-eq0.false))
-    (got v.row.now (c.spans_up_to-next.result - 1) c.get-span.result no_span c.get-span.ensures) c.if-word-behind.false c.begin_of-end.ensures
+    gap-round v.words v.row.now c.requires.lawful.0 c.args.word c.spans_up_to-next.result c.requires.lawful.1 c.requires.word
+    c.spans_up_to-next.ensures c.get-span.result c.begin_of-end.result (omega (arith, c.if-next-eq0.false))
+    (got v.row.now (c.spans_up_to-next.result - 1) c.get-span.result no_span c.get-span.ensures) c.if-word-behind.false
+    c.begin_of-end.ensures

@@ -8,5 +8,9 @@ pub returns : goal.returns
 returns g c =
     let t = c.args.self.now in
     subst (λ (m : List Perm). IsFound g.L.LeafForm.kind m c.args.word c.find.result)
-    (cc (c.get.ensures, map_of-read g.L.LeafForm.kind t.upper t.leaf t.spill t.words t.roots c.args.domain c.requires.first c.requires.last))
+    (cc (
+      c.get.ensures,
+      map_of-read g.L.LeafForm.kind t.upper t.leaf t.spill t.words t.roots c.args.domain c.requires.first
+          c.requires.last,
+    ))
     c.find.ensures

@@ -8,10 +8,24 @@ use Rattle.mx_trie.proofs.trie.TriePermTables.shown.Goals as goal
 pub returns : goal.returns
 returns g c =
     c.found_item.ensures
-    (map_of (read_maps g.L.LeafForm.kind c.args.self.now.upper c.args.self.now.leaf c.args.self.now.spill c.args.self.now.words c.args.self.now.roots) c.args.domain)
+    (map_of (read_maps g.L.LeafForm.kind c.args.self.now.upper c.args.self.now.leaf c.args.self.now.spill c.args.self.now.words
+    c.args.self.now.roots) c.args.domain)
     c.find_word.ensures
-    (length-map_of g.L.LeafForm.kind c.args.self.now.upper c.args.self.now.leaf c.args.self.now.spill c.args.self.now.words c.args.self.now.roots c.args.domain c.requires.domain.first (domain-from g.L.LeafForm.kind c.args.self.now.upper c.args.self.now.leaf c.args.self.now.spill c.args.self.now.words c.args.self.now.roots c.args.domain c.requires.domain))
+    (length-map_of g.L.LeafForm.kind c.args.self.now.upper c.args.self.now.leaf c.args.self.now.spill c.args.self.now.words
+    c.args.self.now.roots c.args.domain c.requires.domain.first
+    (domain-from g.L.LeafForm.kind c.args.self.now.upper c.args.self.now.leaf c.args.self.now.spill c.args.self.now.words
+    c.args.self.now.roots c.args.domain c.requires.domain))
 
 pub find_word-requires-clause-last : goal.find_word-requires-clause-last
 find_word-requires-clause-last g c =
-    search (arith, domain-from, g.L.LeafForm.kind, c.args.self.now.upper, c.args.self.now.leaf, c.args.self.now.spill, c.args.self.now.words, c.args.self.now.roots, c.args.domain)
+    search (
+      arith,
+      domain-from,
+      g.L.LeafForm.kind,
+      c.args.self.now.upper,
+      c.args.self.now.leaf,
+      c.args.self.now.spill,
+      c.args.self.now.words,
+      c.args.self.now.roots,
+      c.args.domain,
+    )
