@@ -1,5 +1,6 @@
 -- What a turn that carries out an instruction says of where its hart stands, and what one that traps says.
-use Rattle.std.proofs.Common.{◌≡◌, ℕ, zero, suc, ◌%◌, ◌<◌, Bool, true, false, not, ◌==◌, ◌&&◌, ◌||◌, nat_le, List, [], ◌∷◌, drop, find, length, slice_get, Option, Some, None, refl, sym, ap, subst, ◌∙◌, arith, eqb-true, if◌then◌else◌}
+use Rattle.std.proofs.Common.{◌≡◌, ℕ, zero, suc, ◌%◌, ◌<◌, Bool, true, false, not, ◌==◌, ◌&&◌, ◌||◌, nat_le, List, [], ◌∷◌, drop, find}
+use Rattle.std.proofs.Common.{length, slice_get, Option, Some, None, refl, sym, ap, subst, ◌∙◌, arith, eqb-true, if◌then◌else◌}
 use Rattle.std.specs.List.{list_any}
 use Rattle.std.specs.Option.{option_map_or}
 use Rattle.std.proofs.lemmas.Bool.{or_left, or_parts}
@@ -18,7 +19,8 @@ use Rattle.mx_model.specs.Gates.{call_target, gate_at, has_gate, is_at, most_fra
 use Rattle.mx_model.specs.Reads.{Reads, flat_reads, map_in}
 use Rattle.mx_model.specs.Run.{flat_kind, flat_made}
 use Rattle.mx_model.specs.State.{Core, Flat, Hart, Status, Running, Waiting, Halted, hart_at, module_at, no_hart}
-use Rattle.mx_model.specs.Turn.{Action, Rests, Waits, Serves, Asks, Traps, Bounces, Crosses, Returns, Runs, Writes, Made, acted, asked, by_status, call_gate_at, fetches, is_denied, is_served_now, runs_at, runs_in, traps, turned, without_look}
+use Rattle.mx_model.specs.Turn.{Action, Rests, Waits, Serves, Asks, Traps, Bounces, Crosses, Returns, Runs, Writes, Made, acted, asked}
+use Rattle.mx_model.specs.Turn.{by_status, call_gate_at, fetches, is_denied, is_served_now, runs_at, runs_in, traps, turned, without_look}
 use Rattle.mx_model.specs.Effect.{reg}
 use Rattle.mx_model.proofs.KeepLaws.{keeps-turned}
 use Rattle.mx_laws.proofs.QuietLaws.{same-turn}
@@ -77,7 +79,8 @@ not_true : (b : Bool) → not b ≡ false → b ≡ true
 not_true true e = refl
 not_true false e = absurd (let q : ⊥ = cc in q)
 
-pub no_entry : (r : Reads) (c : Core) (d address : ℕ) → is_entry r c d address ≡ false → (is_denied r c d address A.Execute ≡ true) × (call_gate_at c d address ≡ None)
+pub no_entry : (r : Reads) (c : Core) (d address : ℕ) → is_entry r c d address ≡ false
+    → (is_denied r c d address A.Execute ≡ true) × (call_gate_at c d address ≡ None)
 no_entry r c d address e =
     let parts = or_parts (not (is_denied r c d address A.Execute)) (option_map_or (has_gate c.gates d) (word_of address c.size) false) e in
     (not_true (is_denied r c d address A.Execute) parts.0, no_call c.gates d (word_of address c.size) parts.1)
@@ -93,7 +96,8 @@ pub record RunsOn (old : List Gate) (d h : ℕ) (e : Core) : Type 0 where
   pub domain : (hart_at e h).domain ≡ d
   pub status : (hart_at e h).status ≡ Running
 
-runs_acted : (r : Reads) (c : Core) (h : ℕ) (x : Hart) (a : Action) → h < length c.harts → (acted r c h x a).kind ≡ K.Ran → RunsOn c.gates x.domain h (acted r c h x a).core
+runs_acted : (r : Reads) (c : Core) (h : ℕ) (x : Hart) (a : Action) → h < length c.harts → (acted r c h x a).kind ≡ K.Ran
+    → RunsOn c.gates x.domain h (acted r c h x a).core
 runs_acted r c h x Rests l e = absurd (let q : ⊥ = cc in q)
 runs_acted r c h x Waits l e = absurd (let q : ⊥ = cc in q)
 runs_acted r c h x (Serves call) l e = absurd (let q : ⊥ = cc in q)
@@ -111,7 +115,8 @@ runs_acted r c h x (Writes address size value) l e =
     record { gates = refl; domain = ap (λ (y : Hart). y.domain) same; status = ap (λ (y : Hart). y.status) same }
 
 -- what one that traps tells
-tells_acted : (r : Reads) (c : Core) (h : ℕ) (x : Hart) (a : Action) (breaks : List ℕ) → (acted r c h x a).kind ≡ K.Trapped → faults_in breaks (acted r c h x a).note ≡ list_any (λ b. b == x.pc) breaks
+tells_acted : (r : Reads) (c : Core) (h : ℕ) (x : Hart) (a : Action) (breaks : List ℕ) → (acted r c h x a).kind ≡ K.Trapped
+    → faults_in breaks (acted r c h x a).note ≡ list_any (λ b. b == x.pc) breaks
 tells_acted r c h x Rests breaks e = absurd (let q : ⊥ = cc in q)
 tells_acted r c h x Waits breaks e = absurd (let q : ⊥ = cc in q)
 tells_acted r c h x (Serves call) breaks e = absurd (let q : ⊥ = cc in q)
@@ -142,14 +147,16 @@ module _ (r : Reads) (c d : Core) (h : ℕ) (x : Hart) where
   fetched true e = absurd (let q : ⊥ = cc in q)
   fetched false e = refl
 
-  gated : (v w u : Bool) (target : ℕ) → (acted r c h x (if v then traps 19 (reg x.regs 1) else if w then without_look Bounces else if u then traps 16 x.pc else without_look (Crosses target)).action).kind ≡ K.Ran → ⊥
+  gated : (v w u : Bool) (target : ℕ) → (acted r c h x (if v then traps 19 (reg x.regs 1) else if w then without_look Bounces else if u then
+      traps 16 x.pc else without_look (Crosses target)).action).kind ≡ K.Ran → ⊥
   gated true w u target e = cc
   gated false true u target e = cc
   gated false false true target e = cc
   gated false false false target e = cc
 
   run_at : (o : Option ℕ) → (acted r c h x (runs_at r d h x o).action).kind ≡ K.Ran → is_denied r d x.domain x.pc A.Execute ≡ false
-  run_at (Some target) e = absurd (gated (not (reg x.regs 1 % 4 == 0)) (module_at d target).dead (nat_le most_frames (length x.frames)) target e)
+  run_at (Some target) e = absurd (gated (not (reg x.regs 1 % 4 == 0)) (module_at d target).dead (nat_le most_frames (length x.frames))
+      target e)
   run_at None e = fetched (is_denied r d x.domain x.pc A.Execute) e
 
   run_in : (b : Bool) → (acted r c h x (runs_in r d h x b).action).kind ≡ K.Ran → is_denied r d x.domain x.pc A.Execute ≡ false
@@ -160,13 +167,15 @@ module _ (r : Reads) (c d : Core) (h : ℕ) (x : Hart) where
   waiting true call e = cc
   waiting false call e = cc
 
-  ran_by : (s : Status) → (acted r c h x (by_status r d h x s).action).kind ≡ K.Ran → (s ≡ Running) × (is_denied r d x.domain x.pc A.Execute ≡ false)
+  ran_by : (s : Status) → (acted r c h x (by_status r d h x s).action).kind ≡ K.Ran
+      → (s ≡ Running) × (is_denied r d x.domain x.pc A.Execute ≡ false)
   ran_by Running e = (refl, run_in (module_at d x.domain).dead e)
   ran_by (Waiting call heard) e = absurd (waiting (is_ready d h heard) call e)
   ran_by (Halted code) e = absurd (let q : ⊥ = cc in q)
 
   -- where the domain may neither execute nor has a call gate, it traps
-  trap_in : (b : Bool) → is_denied r d x.domain x.pc A.Execute ≡ true → call_gate_at d x.domain x.pc ≡ None → (acted r c h x (runs_in r d h x b).action).kind ≡ K.Trapped
+  trap_in : (b : Bool) → is_denied r d x.domain x.pc A.Execute ≡ true → call_gate_at d x.domain x.pc ≡ None
+      → (acted r c h x (runs_in r d h x b).action).kind ≡ K.Trapped
   trap_in true denied gate = refl
   trap_in false denied gate =
       ap (λ (o : Option ℕ). (acted r c h x (runs_at r d h x o).action).kind) gate
@@ -180,7 +189,8 @@ module _ (r : Reads) (c : Core) (h : ℕ) where
   ran_parts : (turned r c h).kind ≡ K.Ran → (own.status ≡ Running) × (is_denied r c own.domain own.pc A.Execute ≡ false)
   ran_parts e =
       let t = by-action r c h in
-      ran_by r (apart c t.turns t.harts t.after) (apart c t.turns t.harts t.before) h own own.status (ap (λ (m : Made). m.kind) (sym t.is) ∙ e)
+      ran_by r (apart c t.turns t.harts t.after) (apart c t.turns t.harts t.before) h own own.status (ap (λ (m : Made). m.kind) (sym t.is)
+      ∙ e)
 
   -- one that carries out an instruction began where the domain may execute
   pub ran_enters : (turned r c h).kind ≡ K.Ran → is_entry r c own.domain own.pc ≡ true
@@ -207,7 +217,8 @@ module _ (r : Reads) (c : Core) (h : ℕ) where
       ∙ ap (λ (s : Status). (acted r after h own (by_status r before h own s).action).kind) runs
       ∙ trap_in r after before h own (module_at before own.domain).dead no.0 no.1
 
-  pub trap_tells : (breaks : List ℕ) → (turned r c h).kind ≡ K.Trapped → faults_in breaks (turned r c h).note ≡ list_any (λ b. b == own.pc) breaks
+  pub trap_tells : (breaks : List ℕ) → (turned r c h).kind ≡ K.Trapped
+      → faults_in breaks (turned r c h).note ≡ list_any (λ b. b == own.pc) breaks
   trap_tells breaks e =
       let t = by-action r c h in
       let action = (by_status r (apart c t.turns t.harts t.before) h own own.status).action in
@@ -218,12 +229,14 @@ module _ (r : Reads) (c : Core) (h : ℕ) where
   trap_silent e =
       let t = by-action r c h in
       let action = (by_status r (apart c t.turns t.harts t.before) h own own.status).action in
-      ap (λ (m : Made). m.console) t.is ∙ silent_acted r (apart c t.turns t.harts t.after) h own action (ap (λ (m : Made). m.kind) (sym t.is) ∙ e)
+      ap (λ (m : Made). m.console) t.is ∙ silent_acted r (apart c t.turns t.harts t.after) h own action
+      (ap (λ (m : Made). m.kind) (sym t.is) ∙ e)
 
 -- entries are the same where maps, size and gates are
 abbrev entry_by : ℕ → List (List Perm) → List Gate → ℕ → ℕ → Bool
 entry_by size maps gates d b =
-    not (not (allows (option_map_or (λ i. perm_at (map_in size maps d) i) (word_of b size) P.None) A.Execute)) || option_map_or (has_gate gates d) (word_of b size) false
+    not (not (allows (option_map_or (λ i. perm_at (map_in size maps d) i) (word_of b size) P.None) A.Execute))
+    || option_map_or (has_gate gates d) (word_of b size) false
 
 pub record SameEntries (f g : Flat) (h : ℕ) : Type 0 where
   pub maps : g.maps ≡ f.maps
@@ -231,7 +244,8 @@ pub record SameEntries (f g : Flat) (h : ℕ) : Type 0 where
   pub gates : g.core.gates ≡ f.core.gates
   pub domain : (hart_at g.core h).domain ≡ (hart_at f.core h).domain
 
-pub same_entry : (f g : Flat) (h b : ℕ) → SameEntries f g h → is_entry (flat_reads g) g.core (hart_at g.core h).domain b ≡ is_entry (flat_reads f) f.core (hart_at f.core h).domain b
+pub same_entry : (f g : Flat) (h b : ℕ) → SameEntries f g h → is_entry (flat_reads g) g.core (hart_at g.core h).domain b
+    ≡ is_entry (flat_reads f) f.core (hart_at f.core h).domain b
 same_entry f g h b s =
     ap (λ n. entry_by n g.maps g.core.gates (hart_at g.core h).domain b) s.size
     ∙ ap (λ (m : List (List Perm)). entry_by f.core.size m g.core.gates (hart_at g.core h).domain b) s.maps
@@ -273,12 +287,14 @@ module _ (h : ℕ) (f : Flat) where
 
   module _ (breaks : List ℕ) (clear : IsClear f h breaks) where
     -- none of those that carry out an instruction began at a breakpoint
-    no_place : (n : ℕ) → Ran n → is_entry (flat_reads (turns_of h f n)) (turns_of h f n).core (hart_at (turns_of h f n).core h).domain (hart_at (turns_of h f n).core h).pc ≡ true
+    no_place : (n : ℕ) → Ran n → is_entry (flat_reads (turns_of h f n)) (turns_of h f n).core (hart_at (turns_of h f n).core h).domain
+        (hart_at (turns_of h f n).core h).pc ≡ true
         → list_any (λ b. b == (hart_at (turns_of h f n).core h).pc) breaks ≡ false
     no_place n ran enters =
         let g = turns_of h f n in
         let pc = (hart_at g.core h).pc in
-        any_apart (is_entry (flat_reads f) f.core (hart_at f.core h).domain) pc breaks clear (sym (same_entry f g h pc (entries_along n ran)) ∙ enters)
+        any_apart (is_entry (flat_reads f) f.core (hart_at f.core h).domain) pc breaks clear
+        (sym (same_entry f g h pc (entries_along n ran)) ∙ enters)
 
     no_break_by : (b x : Bool) → x ≡ false → (b && x) ≡ false
     no_break_by true x e = e
@@ -291,7 +307,8 @@ module _ (h : ℕ) (f : Flat) where
         (no_place n (λ j less. ran j (omega (arith, less))) (ran_enters (flat_reads g) g.core h (ran n (omega arith))))
 
     not_at_break : (n : ℕ) → Ran (suc n) → is_trapped (flat_kind (turns_of h f (suc n)) h) ≡ false → (v : Bool)
-        → is_entry (flat_reads (turns_of h f (suc n))) (turns_of h f (suc n)).core (hart_at (turns_of h f (suc n)).core h).domain (hart_at (turns_of h f (suc n)).core h).pc ≡ v
+        → is_entry (flat_reads (turns_of h f (suc n))) (turns_of h f (suc n)).core (hart_at (turns_of h f (suc n)).core h).domain
+        (hart_at (turns_of h f (suc n)).core h).pc ≡ v
         → list_any (λ b. b == (hart_at (turns_of h f (suc n)).core h).pc) breaks ≡ false
     not_at_break n ran e true enters = no_place (suc n) ran enters
     not_at_break n ran e false out =
@@ -302,7 +319,8 @@ module _ (h : ℕ) (f : Flat) where
 
     -- the last one began there only if it traps, and then its note tells it
     last_by : (n : ℕ) → Ran (suc n) → (v : Bool) → is_trapped (flat_kind (turns_of h f (suc n)) h) ≡ v
-        → list_any (λ b. b == (hart_at (turns_of h f (suc n)).core h).pc) breaks ≡ (v && faults_in breaks (flat_made (turns_of h f (suc n)) h).note)
+        → list_any (λ b. b == (hart_at (turns_of h f (suc n)).core h).pc) breaks
+        ≡ (v && faults_in breaks (flat_made (turns_of h f (suc n)) h).note)
     last_by n ran true e =
         let g = turns_of h f (suc n) in
         sym (trap_tells (flat_reads g) g.core h breaks (is_trap (flat_kind g h) e))

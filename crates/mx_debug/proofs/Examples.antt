@@ -22,7 +22,8 @@ use Rattle.mx_debug_texts.specs.Pieces.{short_digits}
 use Rattle.mx_debug.specs.Replies.{reply, told}
 use Rattle.mx_debug.specs.Session.{Asked, Looked, Session, first_session, forward, stopped}
 use Rattle.mx_debug.specs.Talks.{first_talk, said_to}
-use Rattle.mx_debug.specs.Texts.{document_said, memory_text, pairs, place_text, register_of, registers_of, shown_said, stop_text, threads_text, type_of, window_text, word_text}
+use Rattle.mx_debug.specs.Texts.{document_said, memory_text, pairs, place_text, register_of, registers_of, shown_said, stop_text}
+use Rattle.mx_debug.specs.Texts.{threads_text, type_of, window_text, word_text}
 use Rattle.mx_debug.proofs.KnownExample.{known}
 
 -- two harts that count in a loop of two instructions, each hart a turn in order
@@ -83,10 +84,12 @@ unfolding decoded effect holds imm_result reg_result loaded number_at put_at cle
 steps_within = refl
 
 -- where a session stands after a stop: the hart of a stop is the one that is shown, and makes steps, from then on
-stands_after : stopped (record first_session { shown = 1 }) (7, S.Breaks 0) ≡ record first_session { made = 7; broke = true; told = 7; stop = S.Breaks 0 }
+stands_after : stopped (record first_session { shown = 1 }) (7, S.Breaks 0)
+    ≡ record first_session { made = 7; broke = true; told = 7; stop = S.Breaks 0 }
 stands_after = refl
 
-keeps_hart : stopped (record first_session { shown = 1; followed = 1; broke = true }) (7, S.Pauses) ≡ record first_session { made = 7; told = 7; stop = S.Pauses; shown = 1; followed = 1 }
+keeps_hart : stopped (record first_session { shown = 1; followed = 1; broke = true }) (7, S.Pauses)
+    ≡ record first_session { made = 7; told = 7; stop = S.Pauses; shown = 1; followed = 1 }
 keeps_hart = refl
 
 -- texts: a word from its lowest byte on, registers, memory, stops, threads, parts, and the console's bytes
@@ -99,7 +102,8 @@ core = (looping Running).core
 registers : registers_of core 1 0x100000002 ≡ replicate 256 48 ++ codes "0000008001000000000000000200000001000000"
 registers = refl
 
-register_names : list_map (register_of core 0 7) (32 ∷ 33 ∷ 35 ∷ 36 ∷ []) ≡ codes "00000080" ∷ codes "01000000" ∷ codes "0700000000000000" ∷ codes "E01" ∷ []
+register_names : list_map (register_of core 0 7) (32 ∷ 33 ∷ 35 ∷ 36 ∷ []) ≡ codes "00000080" ∷ codes "01000000" ∷ codes "0700000000000000"
+    ∷ codes "E01" ∷ []
 register_names = refl
 
 no_hart : registers_of core 2 0 ∷ register_of core 2 0 0 ∷ [] ≡ codes "E01" ∷ codes "E01" ∷ []
@@ -108,17 +112,20 @@ no_hart = refl
 memory : list_map (memory_text core 0x80000002) (0 ∷ 1 ∷ 4 ∷ []) ≡ [] ∷ codes "12" ∷ codes "12006ff0" ∷ []
 memory = refl
 
-outside : memory_text core 0x7fffffff 1 ∷ memory_text core 0x80000100 1 ∷ memory_text core 0x800000fe 9 ∷ [] ≡ codes "E01" ∷ codes "E01" ∷ codes "0000" ∷ []
+outside : memory_text core 0x7fffffff 1 ∷ memory_text core 0x80000100 1 ∷ memory_text core 0x800000fe 9 ∷ [] ≡ codes "E01" ∷ codes "E01"
+    ∷ codes "0000" ∷ []
 outside = refl
 
 stops : list_map (stop_text 2) (S.Breaks 0 ∷ S.Steps 1 ∷ S.Ends ∷ S.Begins ∷ S.Pauses ∷ S.Breaks 9 ∷ [])
-    ≡ codes "T05thread:p1.1;" ∷ codes "T05thread:p1.2;" ∷ codes "T05replaylog:end;thread:p1.3;" ∷ codes "T05replaylog:begin;thread:p1.3;" ∷ codes "T02thread:p1.3;" ∷ codes "T05thread:p1.?;" ∷ []
+    ≡ codes "T05thread:p1.1;" ∷ codes "T05thread:p1.2;" ∷ codes "T05replaylog:end;thread:p1.3;" ∷ codes "T05replaylog:begin;thread:p1.3;"
+    ∷ codes "T02thread:p1.3;" ∷ codes "T05thread:p1.?;" ∷ []
 stops = refl
 
 threads : list_map threads_text (1 ∷ 3 ∷ []) ≡ codes "mp1.1" ∷ codes "mp1.1,p1.2,p1.3" ∷ []
 threads = refl
 
-parts : window_text (codes "abcdef") 0 4 ∷ window_text (codes "abcdef") 4 2 ∷ window_text (codes "abcdef") 4 9 ∷ window_text (codes "abcdef") 9 1 ∷ []
+parts : window_text (codes "abcdef") 0 4 ∷ window_text (codes "abcdef") 4 2 ∷ window_text (codes "abcdef") 4 9
+    ∷ window_text (codes "abcdef") 9 1 ∷ []
     ≡ codes "mabcd" ∷ codes "lef" ∷ codes "lef" ∷ codes "l" ∷ []
 parts = refl
 
@@ -128,7 +135,8 @@ shown = refl
 shown_twice : shown_said (replicate 2041 0) ≡ sent (codes "O" ++ replicate 4080 48) ++ sent (codes "O00")
 shown_twice = refl
 
-register_types : list_map type_of (0 ∷ 1 ∷ 2 ∷ 4 ∷ 5 ∷ 8 ∷ 9 ∷ []) ≡ codes "int" ∷ codes "code_ptr" ∷ codes "data_ptr" ∷ codes "data_ptr" ∷ codes "int" ∷ codes "data_ptr" ∷ codes "int" ∷ []
+register_types : list_map type_of (0 ∷ 1 ∷ 2 ∷ 4 ∷ 5 ∷ 8 ∷ 9 ∷ []) ≡ codes "int" ∷ codes "code_ptr" ∷ codes "data_ptr" ∷ codes "data_ptr"
+    ∷ codes "int" ∷ codes "data_ptr" ∷ codes "int" ∷ []
 register_types = refl
 
 places : list_map place_text (0 ∷ 9 ∷ 10 ∷ 31 ∷ []) ≡ codes "0" ∷ codes "9" ∷ codes "10" ∷ codes "31" ∷ []
@@ -148,28 +156,40 @@ breakpoints : sessions one_break (R.Set 16 ∷ R.Set 48 ∷ R.Clear 16 ∷ R.Cle
     ≡ one_break ∷ record first_session { breaks = 16 ∷ 32 ∷ 48 ∷ [] } ∷ record first_session { breaks = 32 ∷ [] } ∷ one_break ∷ []
 breakpoints = refl
 
-chosen : sessions first_session (R.Show (T.Hart 1) ∷ R.Show (T.Hart 2) ∷ R.Show T.Any ∷ R.Follow (T.Hart 1) ∷ R.IsThere (T.Hart 1) ∷ R.NoAcks ∷ [])
-    ≡ record first_session { shown = 1 } ∷ first_session ∷ first_session ∷ record first_session { followed = 1 } ∷ first_session ∷ record first_session { acknowledges = false } ∷ []
+chosen : sessions first_session (R.Show (T.Hart 1) ∷ R.Show (T.Hart 2) ∷ R.Show T.Any ∷ R.Follow (T.Hart 1) ∷ R.IsThere (T.Hart 1)
+    ∷ R.NoAcks ∷ [])
+    ≡ record first_session { shown = 1 } ∷ first_session ∷ first_session ∷ record first_session { followed = 1 } ∷ first_session
+    ∷ record first_session { acknowledges = false } ∷ []
 chosen = refl
 
-answers : texts first_session (R.Set 16 ∷ R.Show (T.Hart 2) ∷ R.IsThere (T.Hart 1) ∷ R.Change ∷ R.Why ∷ R.Attached ∷ R.MoreThreads ∷ R.Current ∷ R.Leave ∷ R.Kill ∷ R.End ∷ R.Unknown ∷ [])
-    ≡ sent (codes "OK") ∷ sent (codes "E01") ∷ sent (codes "OK") ∷ sent (codes "E01") ∷ sent (codes "T05thread:p1.1;") ∷ sent (codes "1") ∷ sent (codes "l") ∷ sent (codes "QCp1.1") ∷ sent (codes "OK") ∷ []
+answers : texts first_session (R.Set 16 ∷ R.Show (T.Hart 2) ∷ R.IsThere (T.Hart 1) ∷ R.Change ∷ R.Why ∷ R.Attached ∷ R.MoreThreads
+    ∷ R.Current ∷ R.Leave ∷ R.Kill ∷ R.End ∷ R.Unknown ∷ [])
+    ≡ sent (codes "OK") ∷ sent (codes "E01") ∷ sent (codes "OK") ∷ sent (codes "E01") ∷ sent (codes "T05thread:p1.1;") ∷ sent (codes "1")
+    ∷ sent (codes "l") ∷ sent (codes "QCp1.1") ∷ sent (codes "OK") ∷ []
     ∷ sent (codes "OK") ∷ sent [] ∷ []
 answers = refl
 
 -- of harts and objects: a hart that isn't there, and parts of which more follows or not
-abouts : texts first_session (R.About (T.Hart 0) ∷ R.About (T.Hart 1) ∷ R.About (T.Hart 2) ∷ R.About T.Any ∷ R.Part O.File 0 9 ∷ R.Part O.Threads 0 9 ∷ R.Part O.Libraries 1 4000 ∷ [])
-    ≡ sent (pairs (codes "m, running, next")) ∷ sent (pairs (codes "m, running")) ∷ sent (codes "E01") ∷ sent (codes "E01") ∷ sent (codes "lm.elf") ∷ sent (codes "m<threads>")
+abouts : texts first_session (R.About (T.Hart 0) ∷ R.About (T.Hart 1) ∷ R.About (T.Hart 2) ∷ R.About T.Any ∷ R.Part O.File 0 9
+    ∷ R.Part O.Threads 0 9 ∷ R.Part O.Libraries 1 4000 ∷ [])
+    ≡ sent (pairs (codes "m, running, next")) ∷ sent (pairs (codes "m, running")) ∷ sent (codes "E01") ∷ sent (codes "E01")
+    ∷ sent (codes "lm.elf") ∷ sent (codes "m<threads>")
     ∷ sent (codes "llibrary-list></library-list>") ∷ []
 unfolding digits short_digits
 abouts = refl
 
 -- back, for want of memory and at the begin; and past the last turn of the run
-wanting : list_map (reply both true one_break) (R.StepBack ∷ R.GoBack ∷ []) ≡ told one_break (codes "E0c") ∷ told one_break (codes "E0c") ∷ []
+wanting : list_map (reply both true one_break) (R.StepBack ∷ R.GoBack ∷ []) ≡ told one_break (codes "E0c") ∷ told one_break (codes "E0c")
+    ∷ []
 wanting = refl
 
 begins : reply both false first_session R.StepBack
-    ≡ record { said = document_said (codes "before the first turn\n") ++ sent (codes "T05replaylog:begin;thread:p1.1;"); session = record first_session { stop = S.Begins }; leaves = false }
+    ≡ record {
+      said = document_said (codes "before the first turn\n") ++ sent (codes "T05replaylog:begin;thread:p1.1;");
+      session =
+          record first_session { stop = S.Begins };
+      leaves = false;
+    }
 begins = refl
 
 too_many : reply both false first_session (R.After 101) ≡ told first_session (codes "E01")

@@ -1,5 +1,6 @@
 -- Answers that gdb doesn't take for bytes of the console.
-use Rattle.std.proofs.Common.{◌≡◌, ℕ, zero, suc, ◌+◌, ◌*◌, ◌/◌, ◌%◌, ◌^◌, ◌==◌, ◌&&◌, ◌||◌, Bool, true, false, List, [], ◌∷◌, ◌++◌, codes, drop, flat_map, length, min, nat_le, nat_lt, Option, Some, None, take, if◌then◌else◌, refl, arith}
+use Rattle.std.proofs.Common.{◌≡◌, ℕ, zero, suc, ◌+◌, ◌*◌, ◌/◌, ◌%◌, ◌^◌, ◌==◌, ◌&&◌, ◌||◌, Bool, true, false, List, [], ◌∷◌, ◌++◌, codes}
+use Rattle.std.proofs.Common.{drop, flat_map, length, min, nat_le, nat_lt, Option, Some, None, take, if◌then◌else◌, refl, arith}
 use Rattle.std.specs.Prelude.{⊤}
 use Rattle.std.proofs.lemmas.Bool.Decides.{nat_tests}
 use Rattle.mx_words.specs.Ranges.{ram_base}
@@ -12,7 +13,8 @@ use Rattle.mx_model.specs.declared.values.Note.TheVariants as N
 use Rattle.mx_debug.specs.declared.stop.Stop.{Stop}
 use Rattle.mx_debug.specs.Replies.{View, about_hart}
 use Rattle.mx_debug.specs.declared.stop.Stop.TheVariants as S
-use Rattle.mx_debug.specs.Texts.{memory_text, most_seen, pairs, register_of, registers_of, registers_text, seen_bytes, stop_text, thread_name, threads_text, window_mark, window_text, word_text, wrong}
+use Rattle.mx_debug.specs.Texts.{memory_text, most_seen, pairs, register_of, registers_of, registers_text, seen_bytes, stop_text}
+use Rattle.mx_debug.specs.Texts.{thread_name, threads_text, window_mark, window_text, word_text, wrong}
 use Rattle.mx_debug.specs.Told.{is_shown}
 
 -- an answer whose first byte isn't `O`
@@ -95,7 +97,8 @@ plain_memory c address count =
 plain_signal : (cause h : ℕ) → is_shown (cut (((fault_signal cause ++ codes "thread:") ++ thread_name h) ++ codes ";")) ≡ false
 plain_signal cause h =
     let P = λ (x : List ℕ). is_shown (cut (((x ++ codes "thread:") ++ thread_name h) ++ codes ";")) ≡ false in
-    by_test P ((cause == 0) || ((cause == 4) || ((cause == 6) || (cause == 19)))) (codes "T0a") (if cause == 2 then codes "T04" else if cause == 3 then codes "T05" else if cause == 20 then codes "T06" else codes "T0b") refl
+    by_test P ((cause == 0) || ((cause == 4) || ((cause == 6) || (cause == 19)))) (codes "T0a")
+    (if cause == 2 then codes "T04" else if cause == 3 then codes "T05" else if cause == 20 then codes "T06" else codes "T0b") refl
     (by_test P (cause == 2) (codes "T04") (if cause == 3 then codes "T05" else if cause == 20 then codes "T06" else codes "T0b") refl
     (by_test P (cause == 3) (codes "T05") (if cause == 20 then codes "T06" else codes "T0b") refl
     (by_test P (cause == 20) (codes "T06") (codes "T0b") refl refl)))

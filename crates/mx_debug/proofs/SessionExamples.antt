@@ -153,6 +153,7 @@ after-two : (reply trapping false first_session (R.After 2)).session ≡ record 
 unfolding decoded effect holds imm_result reg_result loaded number_at put_at cleared_at imm_i imm_s imm_b imm_u imm_j extended
 after-two = refl
 
-back-to-one : (reply trapping false (record first_session { made = 2; told = 2 }) (R.After 1)).session ≡ record first_session { made = 1; told = 2; stop = S.Pauses }
+back-to-one : (reply trapping false (record first_session { made = 2; told = 2 }) (R.After 1)).session
+    ≡ record first_session { made = 1; told = 2; stop = S.Pauses }
 unfolding decoded effect holds imm_result reg_result loaded number_at put_at cleared_at imm_i imm_s imm_b imm_u imm_j extended
 back-to-one = refl

@@ -1,5 +1,6 @@
 -- A machine on which a session looks, and what is said while the run goes on.
-use Rattle.std.specs.Prelude.{◌≡◌, ℕ, zero, suc, ◌+◌, ◌-◌, ◌^◌, ◌<◌, ◌≤◌, Bool, true, false, not, ◌&&◌, nat_lt, List, [], ◌++◌, Option, Some, None, Result, Ok, Err, if◌then◌else◌}
+use Rattle.std.specs.Prelude.{◌≡◌, ℕ, zero, suc, ◌+◌, ◌-◌, ◌^◌, ◌<◌, ◌≤◌, Bool, true, false, not, ◌&&◌, nat_lt, List, [], ◌++◌, Option}
+use Rattle.std.specs.Prelude.{Some, None, Result, Ok, Err, if◌then◌else◌}
 use Rattle.mx_model.specs.declared.values.Note.{Note}
 use Rattle.mx_model.specs.declared.values.TurnKind.{TurnKind}
 use Rattle.mx_model.specs.Run.{Schedule}
@@ -31,7 +32,7 @@ pub record IsRunBy (q : Looked) (by : Schedule) (turns : ℕ) : Type 0 where
 -- the run of a course
 pub record IsRunOf (q : Looked) (course : Course) : Type 0 where
   pub schedule : q.schedule ≡ schedule_of course.schedule
-  pub most : q.most ≡ course.most
+  pub most : q.most ≡ course.most.count
   pub known : q.known ≡ known_of course.origin
   pub boots : boot_of course.origin.plan.now course.origin.images.now course.origin.inputs.now ≡ Ok q.start
 
@@ -104,4 +105,3 @@ row_stop step hart last after = if is_last step hart last after then Some (S.Ste
 pub record IsFit (most made : ℕ) (machine : Flat) : Type 0 where
   pub few : machine.core.turns ≤ made
   pub within : made ≤ most
-  pub small : most < 10 ^ 10

@@ -1,5 +1,6 @@
 -- What each packet is answered.
-use Rattle.std.specs.Prelude.{ℕ, ◌+◌, ◌-◌, ◌&&◌, Bool, true, false, ◌==◌, List, [], ◌∷◌, ◌++◌, length, codes, nat_lt, Option, Some, None, if◌then◌else◌}
+use Rattle.std.specs.Prelude.{ℕ, ◌+◌, ◌-◌, ◌&&◌, Bool, true, false, ◌==◌, List, [], ◌∷◌, ◌++◌, length, codes, nat_lt, Option, Some, None}
+use Rattle.std.specs.Prelude.{if◌then◌else◌}
 use Rattle.std.specs.List.{list_any, remove}
 use Rattle.mx_packets.specs.declared.request.Object.{Object}
 use Rattle.mx_packets.specs.declared.request.Object.TheVariants as O
@@ -19,7 +20,8 @@ use Rattle.mx_debug.specs.declared.stop.Stop.TheVariants as S
 use Rattle.mx_debug.specs.Back.{Sought, backward}
 use Rattle.mx_debug.specs.Looks.{shows_to}
 use Rattle.mx_debug.specs.Session.{Asked, Looked, Session, forward, found_of, is_past, most_turns, next_of, state_at, stopped}
-use Rattle.mx_debug.specs.Texts.{document_by, document_said, memory_text, ok, pairs, register_of, registers_of, stop_text, supported, target_text, thread_name, threads_text, ways, window_text, wrong}
+use Rattle.mx_debug.specs.Texts.{document_by, document_said, memory_text, ok, pairs, register_of, registers_of, stop_text, supported}
+use Rattle.mx_debug.specs.Texts.{target_text, thread_name, threads_text, ways, window_text, wrong}
 
 -- what is said to a packet, the session after it, and whether it is left
 pub record Reply : Type 0 where

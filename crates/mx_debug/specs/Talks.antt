@@ -1,5 +1,6 @@
 -- A talk: what is said to the bytes that are heard.
-use Rattle.std.specs.Prelude.{◌≡◌, ◌⊎◌, ℕ, ◌-◌, ◌^◌, ◌<◌, ◌≤◌, Bool, true, false, List, [], ◌∷◌, ◌++◌, length, map, Result, Ok, Err, IsOk, if◌then◌else◌}
+use Rattle.std.specs.Prelude.{◌≡◌, ◌⊎◌, ℕ, ◌-◌, ◌^◌, ◌<◌, ◌≤◌, Bool, true, false, List, [], ◌∷◌, ◌++◌, length, map, Result, Ok, Err, IsOk}
+use Rattle.std.specs.Prelude.{if◌then◌else◌}
 use Rattle.mx_packets.specs.declared.receiver.Heard.{Heard}
 use Rattle.mx_packets.specs.declared.receiver.Heard.TheVariants as H
 use Rattle.mx_packets.specs.Packets.{Gathered, after, heard, none_gathered}

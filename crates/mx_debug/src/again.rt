@@ -54,7 +54,8 @@ pub fn run_on_by(machine: &mut AnyMachine, schedule: Schedule<'_>, turns: u64)
     }
 }
 
-/// The machine of a run after so many turns, or after all of them where it ends sooner, booted again. Where memory is wanting there
+/// The machine of a run after so many turns, or after all of them where it ends sooner, booted again. Where memory is
+/// wanting there
 /// is none; a plan that booted once has no other refusal.
 pub fn machine_at(
     alloc: Global,

@@ -44,7 +44,8 @@ pub struct Back {
     pub machine: AnyMachine,
 }
 
-/// Backward from a number of turns: the greatest number below, among so many, at which the run stops. It boots again, twice. Where
+/// Backward from a number of turns: the greatest number below, among so many, at which the run stops. It boots again,
+/// twice. Where
 /// memory is wanting nothing is found.
 pub fn backward(
     alloc: Global,
@@ -59,7 +60,8 @@ pub fn backward(
     requires within { made ≤ seeking.now.most }
     requires few { made < 2 ^ 64 - 1 }
     requires quantum { HasTurns seeking.now.schedule }
-    ensures finds { (q : Looked) → boot_of origin.now.plan.now origin.now.images.now origin.now.inputs.now ≡ Ok q.start →
+    ensures finds { (q : Looked) →
+        boot_of origin.now.plan.now origin.now.images.now origin.now.inputs.now ≡ Ok q.start →
         IsRunBy q (schedule_of seeking.now.schedule) seeking.now.most →
         IfOk result (λ back. (back.found ≡ backward_from q (sought_by seeking.now) turns made)
         × IsAt q back.found.0 (meaning back.machine)) }

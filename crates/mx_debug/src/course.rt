@@ -6,7 +6,7 @@ ghost use Rattle.mx_debug.specs.Looks.{known_of};
 
 use crate::again::Origin;
 use mx_debug_texts::Named;
-use mx_turns::Schedule;
+use mx_turns::{Schedule, Steps};
 
 /// The run that is looked at: the schedule, the most turns, and what its machine is booted of.
 #[derive(Clone, Copy)]
@@ -14,7 +14,7 @@ pub struct Course<'a> {
     /// What names the hart of each turn.
     pub schedule: Schedule<'a>,
     /// The most turns.
-    pub most: u64,
+    pub most: Steps,
     /// What the machine is booted of.
     pub origin: Origin<'a>,
 }

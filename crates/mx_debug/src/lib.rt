@@ -1,4 +1,5 @@
-//! A debugger's session: where a run stops, what packets are answered, and the talk on a line. Only what boots again takes memory.
+//! A debugger's session: where a run stops, what packets are answered, and the talk on a line. Only what boots again
+//! takes memory.
 #![tactic(auto)]
 
 mod again;

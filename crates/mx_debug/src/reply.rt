@@ -7,7 +7,8 @@ ghost use Rattle.mx_packets.specs.Streams.{sent};
 ghost use Rattle.mx_debug.specs.Back.{backward as backward_from};
 ghost use Rattle.mx_debug.specs.Ended.{Replies, leaves_by};
 ghost use Rattle.mx_debug.specs.Looks.{Finds, IsAt, IsCourse, IsFit, IsRunOf, place_of};
-ghost use Rattle.mx_debug.specs.Replies.{go_back, go_on, go_to, past_all, reply, settled, sought_of, stands_at, step_by, still_reply, thread_hart, view_of, want};
+ghost use Rattle.mx_debug.specs.Replies.{go_back, go_on, go_to, past_all, reply, settled, sought_of, stands_at};
+ghost use Rattle.mx_debug.specs.Replies.{step_by, still_reply, thread_hart, view_of, want};
 ghost use Rattle.mx_debug.specs.Session.{Looked, asked_of, forward as forward_from, found_of, is_past, most_turns};
 ghost use Rattle.mx_debug.specs.Talking.{RepliesBy};
 
@@ -48,13 +49,13 @@ pub(crate) fn respond<L: Line>(
     session: &mut Session,
     request: Request,
 ) -> Result<Next, Failed>
-    requires fit { IsFit course.now.most session.old.made (meaning machine.old) }
+    requires fit { IsFit course.now.most.count session.old.made (meaning machine.old) }
     requires course { IsCourse course.now }
     ensures replies { (q : Looked) → IsRunOf q course.now →
         IsAt q session.old.made (meaning machine.old) →
         RepliesBy L.says L.room q (λ wanting. reply q wanting session.old request) session.new
         (meaning machine.new) line.old line.new result }
-    ensures fit { OnOk result (IsFit course.now.most session.new.made (meaning machine.new)) }
+    ensures fit { OnOk result (IsFit course.now.most.count session.new.made (meaning machine.new)) }
 {
     match request {
         Request::Go => go_on(alloc, line, machine, course, session, None),
@@ -110,13 +111,13 @@ fn step_by<L: Line>(
     first: u32,
     end: u32,
 ) -> Result<Next, Failed>
-    requires fit { IsFit course.now.most session.old.made (meaning machine.old) }
+    requires fit { IsFit course.now.most.count session.old.made (meaning machine.old) }
     requires course { IsCourse course.now }
     ensures replies { (q : Looked) → IsRunOf q course.now →
         IsAt q session.old.made (meaning machine.old) →
         RepliesBy L.says L.room q (λ wanting. step_by q wanting session.old thread first end) session.new
         (meaning machine.new) line.old line.new result }
-    ensures fit { OnOk result (IsFit course.now.most session.new.made (meaning machine.new)) }
+    ensures fit { OnOk result (IsFit course.now.most.count session.new.made (meaning machine.new)) }
 {
     match thread_hart(machine, session.followed, thread) {
         Some(hart) => {
@@ -150,13 +151,13 @@ fn go_on<L: Line>(
     session: &mut Session,
     step: Option<Step>,
 ) -> Result<Next, Failed>
-    requires fit { IsFit course.now.most session.old.made (meaning machine.old) }
+    requires fit { IsFit course.now.most.count session.old.made (meaning machine.old) }
     requires course { IsCourse course.now }
     ensures replies { (q : Looked) → IsRunOf q course.now →
         IsAt q session.old.made (meaning machine.old) →
         RepliesBy L.says L.room q (λ wanting. go_on q wanting session.old step) session.new
         (meaning machine.new) line.old line.new result }
-    ensures fit { OnOk result (IsFit course.now.most session.new.made (meaning machine.new)) }
+    ensures fit { OnOk result (IsFit course.now.most.count session.new.made (meaning machine.new)) }
 {
     match resume(line, machine, course, session, step) {
         Ok(found) => settle(alloc, line, machine, course, session, found),
@@ -172,21 +173,21 @@ fn resume<L: Line>(
     session: &Session,
     step: Option<Step>,
 ) -> Result<Found, Failed>
-    requires fit { IsFit course.now.most session.now.made (meaning machine.old) }
+    requires fit { IsFit course.now.most.count session.now.made (meaning machine.old) }
     requires course { IsCourse course.now }
     ensures finds { (q : Looked) → IsRunOf q course.now →
         IsAt q session.now.made (meaning machine.old) →
         Finds L.says L.room q (asked_of session.now step) session.now.told session.now.made
         (found_of q session.now step)
         (meaning machine.new) line.old line.new result }
-    ensures fit { IfOk result (λ found. IsFit course.now.most (place_of found) (meaning machine.new)) }
+    ensures fit { IfOk result (λ found. IsFit course.now.most.count (place_of found) (meaning machine.new)) }
 {
     let asking = Asking {
         schedule: course.schedule,
         breaks: session.breaks.as_slice(),
         faults: true,
         step,
-        most: course.most,
+        most: course.most.count,
         told: session.told,
     };
     let known = Known {
@@ -205,13 +206,13 @@ fn settle<L: Line>(
     session: &mut Session,
     found: Found,
 ) -> Result<Next, Failed>
-    requires fit { IsFit course.now.most (place_of found) (meaning machine.old) }
+    requires fit { IsFit course.now.most.count (place_of found) (meaning machine.old) }
     requires course { IsCourse course.now }
     ensures replies { (q : Looked) → IsRunOf q course.now → IsAt q (place_of found) (meaning machine.old) →
         (found.past ≡ true → is_past q found.made ≡ true) →
         RepliesBy L.says L.room q (λ wanting. settled q wanting session.old (found.made, found.stop))
         session.new (meaning machine.new) line.old line.new result }
-    ensures fit { OnOk result (IsFit course.now.most session.new.made (meaning machine.new)) }
+    ensures fit { OnOk result (IsFit course.now.most.count session.new.made (meaning machine.new)) }
 {
     if !found.past {
         return tell(line, machine, course, session, (found.made, found.stop));
@@ -232,8 +233,7 @@ fn stand_again(
     course: &Course<'_>,
     made: u64,
 ) -> Result<(), NoMemory>
-    requires few { made ≤ course.now.most }
-    requires small { course.now.most < 10 ^ 10 }
+    requires few { made ≤ course.now.most.count }
     requires course { IsCourse course.now }
     ensures at { (q : Looked) → IsRunOf q course.now → OnOk result (IsAt q made (meaning machine.new)) }
     ensures few { OnOk result ((meaning machine.new).core.turns ≤ made) }
@@ -297,13 +297,13 @@ fn go_back<L: Line>(
     session: &mut Session,
     hart: Option<u32>,
 ) -> Result<Next, Failed>
-    requires fit { IsFit course.now.most session.old.made (meaning machine.old) }
+    requires fit { IsFit course.now.most.count session.old.made (meaning machine.old) }
     requires course { IsCourse course.now }
     ensures replies { (q : Looked) → IsRunOf q course.now →
         IsAt q session.old.made (meaning machine.old) →
         RepliesBy L.says L.room q (λ wanting. go_back q wanting session.old hart) session.new
         (meaning machine.new) line.old line.new result }
-    ensures fit { OnOk result (IsFit course.now.most session.new.made (meaning machine.new)) }
+    ensures fit { OnOk result (IsFit course.now.most.count session.new.made (meaning machine.new)) }
 {
     match look_back(alloc, course, session, hart) {
         Ok(back) => {
@@ -326,8 +326,7 @@ fn look_back(
     session: &Session,
     hart: Option<u32>,
 ) -> Result<Back, NoMemory>
-    requires within { session.now.made ≤ course.now.most }
-    requires small { course.now.most < 10 ^ 10 }
+    requires within { session.now.made ≤ course.now.most.count }
     requires course { IsCourse course.now }
     ensures finds { (q : Looked) → IsRunOf q course.now → IfOk result (λ back.
         (back.found ≡ backward_from q (sought_of session.now hart) most_turns session.now.made)
@@ -339,7 +338,7 @@ fn look_back(
         schedule: course.schedule,
         breaks: session.breaks.as_slice(),
         hart,
-        most: course.most,
+        most: course.most.count,
     };
     backward(alloc, &course.origin, &seeking, MOST_TURNS, session.made)
 }
@@ -353,15 +352,15 @@ fn go_to<L: Line>(
     session: &mut Session,
     turns: u64,
 ) -> Result<Next, Failed>
-    requires fit { IsFit course.now.most session.old.made (meaning machine.old) }
+    requires fit { IsFit course.now.most.count session.old.made (meaning machine.old) }
     requires course { IsCourse course.now }
     ensures replies { (q : Looked) → IsRunOf q course.now →
         IsAt q session.old.made (meaning machine.old) →
         RepliesBy L.says L.room q (λ wanting. go_to q wanting session.old turns) session.new
         (meaning machine.new) line.old line.new result }
-    ensures fit { OnOk result (IsFit course.now.most session.new.made (meaning machine.new)) }
+    ensures fit { OnOk result (IsFit course.now.most.count session.new.made (meaning machine.new)) }
 {
-    if turns > course.most {
+    if turns > course.most.count {
         match say_text(line, b"E01") {
             Ok(()) => Ok(Next::Goes),
             Err(failed) => Err(failed),
@@ -387,16 +386,16 @@ fn run_to<L: Line>(
     session: &Session,
     turns: u64,
 ) -> Result<Found, Failed>
-    requires fit { IsFit course.now.most session.now.made (meaning machine.old) }
+    requires fit { IsFit course.now.most.count session.now.made (meaning machine.old) }
     requires course { IsCourse course.now }
     requires on { session.now.made ≤ turns }
-    requires within { turns ≤ course.now.most }
+    requires within { turns ≤ course.now.most.count }
     ensures finds { (q : Looked) → IsRunOf q course.now →
         IsAt q session.now.made (meaning machine.old) →
         Finds L.says L.room q past_all session.now.told session.now.made
         (forward_from q past_all (turns - session.now.made) session.now.made false false)
         (meaning machine.new) line.old line.new result }
-    ensures fit { IfOk result (λ found. IsFit course.now.most (place_of found) (meaning machine.new)) }
+    ensures fit { IfOk result (λ found. IsFit course.now.most.count (place_of found) (meaning machine.new)) }
     ensures past { IfOk result (λ found. found.past ≡ false) }
 {
     let asking = Asking {
@@ -404,7 +403,7 @@ fn run_to<L: Line>(
         breaks: &[],
         faults: false,
         step: None,
-        most: course.most,
+        most: course.most.count,
         told: session.told,
     };
     let known = Known {

@@ -1,6 +1,7 @@
 //! The search forward.
 
-ghost use Rattle.std.specs.Prelude.{◌≡◌, ◌≢◌, ◌+◌, ◌-◌, ◌^◌, ◌<◌, ◌≤◌, ◌&&◌, ◌||◌, ◌==◌, [], true, false, not, nat_le, IfOk};
+ghost use Rattle.std.specs.Prelude.{◌≡◌, ◌≢◌, ◌+◌, ◌-◌, ◌^◌, ◌<◌, ◌≤◌, ◌&&◌, ◌||◌, ◌==◌, [], true, false, not, nat_le};
+ghost use Rattle.std.specs.Prelude.{IfOk};
 ghost use Rattle.mx_any.specs.Machines.{meaning};
 ghost use Rattle.mx_machine.specs.Turning.{IsStretch};
 ghost use Rattle.mx_machine.specs.Readings.{IsPlaceOf, status_told};
@@ -58,7 +59,8 @@ const NOTHING: Known = Known {
     faulted: false,
 };
 
-/// Goes on for at most so many turns, from so many on, to where the run stops first, and says what it shows on the console but for what
+/// Goes on for at most so many turns, from so many on, to where the run stops first, and says what it shows on the
+/// console but for what
 /// was told. Where a fault stops it, the machine makes the turn that traps.
 pub fn forward<L: Line>(
     line: &mut L,
@@ -171,7 +173,8 @@ fn few(end: u64, most: u64, made: u64) -> u64
     end.min(most) - made
 }
 
-// How many turns of a hart may be made before one looks again: one, where its step is asked, or where it may come to a breakpoint.
+// How many turns of a hart may be made before one looks again: one, where its step is asked, or where it may come to a
+// breakpoint.
 fn row_of(machine: &AnyMachine, asking: &Asking<'_>, hart: u32, row: u64, singles: u64) -> u64
     requires { 1 ≤ row }
     ensures some { 1 ≤ result }
@@ -205,7 +208,8 @@ fn follows(step: Option<Step>, hart: u32) -> bool
     }
 }
 
-// Why a row of turns stops before its last turn, if it does: that began at a breakpoint, or trapped, and it wasn't told.
+// Why a row of turns stops before its last turn, if it does: that began at a breakpoint, or trapped, and it wasn't
+// told.
 fn stop_past(
     asking: &Asking<'_>,
     faulted: bool,

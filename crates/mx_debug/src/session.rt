@@ -33,7 +33,17 @@ impl Model for Session {
 
     ghost Value = { SessionOf };
 
-    ghost view = { λ s. record { made = s.made; broke = s.broke; faulted = s.faulted; told = s.told; stop = s.stop; breaks = s.breaks.items; shown = s.shown; followed = s.followed; acknowledges = s.acknowledges } };
+    ghost view = { λ s. record {
+      made = s.made;
+      broke = s.broke;
+      faulted = s.faulted;
+      told = s.told;
+      stop = s.stop;
+      breaks = s.breaks.items;
+      shown = s.shown;
+      followed = s.followed;
+      acknowledges = s.acknowledges;
+    } };
 
     ghost invariant = { λ s. length s.breaks.items ≤ 1024 };
 }

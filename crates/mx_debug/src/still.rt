@@ -5,7 +5,9 @@ ghost use Rattle.mx_any.specs.Machines.{meaning};
 ghost use Rattle.mx_packets.specs.Frames.{cut};
 ghost use Rattle.mx_debug_texts.specs.Documents.{known_by};
 ghost use Rattle.mx_debug.specs.Looks.{IsAt, IsCourse, IsRunOf};
-ghost use Rattle.mx_debug.specs.Replies.{about_hart, clear_break, find_hart, fixed_text, follow_hart, look_text, object_text, place_at, set_break, show_hart, still_reply, there, told, view_of};
+ghost use Rattle.mx_debug.specs.Replies.{about_hart, clear_break, find_hart, fixed_text, follow_hart, look_text};
+ghost use Rattle.mx_debug.specs.Replies.{object_text, place_at, set_break, show_hart, still_reply, there, told};
+ghost use Rattle.mx_debug.specs.Replies.{view_of};
 ghost use Rattle.mx_debug.specs.Session.{Looked, next_of};
 ghost use Rattle.mx_debug.specs.Texts.{window_text};
 
@@ -41,7 +43,7 @@ fn next_of(machine: &AnyMachine, course: &Course<'_>, made: u64) -> Option<u32>
     requires { IsCourse course.now }
     ensures { (q : Looked) → IsRunOf q course.now → IsAt q made (meaning machine.now) → result ≡ next_of q made }
 {
-    if made >= course.most || machine.all_halted() {
+    if made >= course.most.count || machine.all_halted() {
         return None;
     }
     any_machine_is_valid(machine);
@@ -175,8 +177,8 @@ fn look(
     answer: &mut Answer,
 )
     requires { answer.old ≡ [] }
-    ensures { answer.new ≡ cut (look_text (record { flat = meaning machine.now; known = known_by named.now; next = next })
-        session.now request) }
+    ensures { answer.new ≡ cut (look_text
+        (record { flat = meaning machine.now; known = known_by named.now; next = next }) session.now request) }
 {
     any_machine_is_valid(machine);
     match request {

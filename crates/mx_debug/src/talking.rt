@@ -22,7 +22,8 @@ use std::alloc::Global;
 /// The most bytes that are heard at a time.
 const PIECE: usize = 4096;
 
-/// Talks on a line about a machine that made no turn, until the session is left or nothing is heard any more. It fails where the line
+/// Talks on a line about a machine that made no turn, until the session is left or nothing is heard any more. It fails
+/// where the line
 /// fails. Memory is taken only to boot again; where it is wanting the answer says so, and the talk goes on.
 pub fn talk<L: Line>(
     alloc: Global,
@@ -31,9 +32,9 @@ pub fn talk<L: Line>(
     course: &Course<'_>,
 ) -> Result<(), Failed>
     requires turns { (meaning machine.old).core.turns ≡ 0 }
-    requires small { course.now.most < 10 ^ 10 }
     requires course { IsCourse course.now }
-    // Over every line: to each piece just its answer was said before anything else was heard, and it failed only where it wasn't sure
+    // Over every line: to each piece just its answer was said before anything else was heard, and it failed only where
+    // it wasn't sure
     // to say the answers to what was heard.
     ensures answered { (q : Looked) → IsRunOf q course.now →
         IsAt q 0 (meaning machine.old) →
@@ -53,7 +54,6 @@ fn converse<L: Line>(
     course: &Course<'_>,
 ) -> Result<(), Failed>
     requires turns { (meaning machine.old).core.turns ≡ 0 }
-    requires small { course.now.most < 10 ^ 10 }
     requires course { IsCourse course.now }
     ensures { (q : Looked) → IsRunOf q course.now →
         IsAt q 0 (meaning machine.old) →
@@ -103,13 +103,13 @@ fn answer_piece<L: Line>(
     talk: &mut Talking,
     piece: &[u8],
 ) -> Result<(), Failed>
-    requires fit { IsFit course.now.most talk.old.session.made (meaning machine.old) }
+    requires fit { IsFit course.now.most.count talk.old.session.made (meaning machine.old) }
     requires course { IsCourse course.now }
     ensures says { (q : Looked) → IsRunOf q course.now →
         IsAt q talk.old.session.made (meaning machine.old) →
         TalksTo L.says L.room q (talk_of talk.old) piece.now (talk_of talk.new)
         (meaning machine.new) line.old line.new result }
-    ensures fit { OnOk result (IsFit course.now.most talk.new.session.made (meaning machine.new)) }
+    ensures fit { OnOk result (IsFit course.now.most.count talk.new.session.made (meaning machine.new)) }
 {
     'bytes: for byte in piece {
         if talk.left {
@@ -132,13 +132,13 @@ fn answer_byte<L: Line>(
     talk: &mut Talking,
     byte: u8,
 ) -> Result<(), Failed>
-    requires fit { IsFit course.now.most talk.old.session.made (meaning machine.old) }
+    requires fit { IsFit course.now.most.count talk.old.session.made (meaning machine.old) }
     requires course { IsCourse course.now }
     ensures says { (q : Looked) → IsRunOf q course.now →
         IsAt q talk.old.session.made (meaning machine.old) →
         SaysByte L.says L.room q (talk_of talk.old) byte (talk_of talk.new)
         (meaning machine.new) line.old line.new result }
-    ensures fit { OnOk result (IsFit course.now.most talk.new.session.made (meaning machine.new)) }
+    ensures fit { OnOk result (IsFit course.now.most.count talk.new.session.made (meaning machine.new)) }
 {
     let heard = talk.receiver.take(byte);
     let packet = talk.receiver.packet();
@@ -178,13 +178,13 @@ fn answer_heard<L: Line>(
     packet: &[u8],
     heard: Heard,
 ) -> Result<Next, Failed>
-    requires fit { IsFit course.now.most session.old.made (meaning machine.old) }
+    requires fit { IsFit course.now.most.count session.old.made (meaning machine.old) }
     requires course { IsCourse course.now }
     ensures replies { (q : Looked) → IsRunOf q course.now →
         IsAt q session.old.made (meaning machine.old) →
         RepliesBy L.says L.room q (λ wanting. reply_to q wanting session.old packet.now heard) session.new
         (meaning machine.new) line.old line.new result }
-    ensures fit { OnOk result (IsFit course.now.most session.new.made (meaning machine.new)) }
+    ensures fit { OnOk result (IsFit course.now.most.count session.new.made (meaning machine.new)) }
 {
     match heard {
         Heard::Nothing => Ok(Next::Goes),

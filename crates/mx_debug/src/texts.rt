@@ -8,7 +8,9 @@ ghost use Rattle.mx_debug_texts.specs.Documents.{IsThere, known_by};
 ghost use Rattle.mx_debug.specs.Replies.{document_of, noted_by};
 ghost use Rattle.mx_packets.specs.Frames.{cut, pair};
 ghost use Rattle.mx_debug.specs.Session.{hart_of_stop};
-ghost use Rattle.mx_debug.specs.Texts.{document_by, memory_text, more_threads, pairs, register_of, registers_of, registers_text, signal_text, stop_text, thread_digit, thread_name, threads_text, word_text};
+ghost use Rattle.mx_debug.specs.Texts.{document_by, memory_text, more_threads, pairs, register_of, registers_of};
+ghost use Rattle.mx_debug.specs.Texts.{registers_text, signal_text, stop_text, thread_digit, thread_name, threads_text};
+ghost use Rattle.mx_debug.specs.Texts.{word_text};
 
 use crate::stop::Stop;
 use mx_any::{AnyMachine, any_machine_is_valid};

@@ -52,7 +52,8 @@ plan = record {
   spill = 4096;
   lookaside = 32;
   quantum = 1;
-  modules = module_of (codes "consumer") (Some (codes "consumer.elf")) ∷ module_of (codes "producer") None ∷ module_of (codes "driver") (Some (codes "a<b.elf")) ∷ [];
+  modules = module_of (codes "consumer") (Some (codes "consumer.elf")) ∷ module_of (codes "producer") None
+      ∷ module_of (codes "driver") (Some (codes "a<b.elf")) ∷ [];
   harts = hart_in 1 ∷ hart_in 3 ∷ hart_in 2 ∷ [];
 }
 
@@ -111,13 +112,14 @@ waits = refl
 waits_next : document_text flat known (D.Hart 1 (Some 1)) ≡ codes "driver > consumer > driver, waiting, next"
 waits_next = refl
 
-halted : document_text flat known (D.Hart 2 (Some 2)) ≡ codes "producer, halted"
+halted : document_text flat known (D.Hart 2 (Some 2)) ≡ codes "producer, halted by exit, code 5"
+unfolding digits
 halted = refl
 
 threads : document_text flat known (D.Threads (Some 0))
     ≡ codes "<threads><thread id=\"p1.1\" name=\"hart 0\">consumer &gt; producer, running, next</thread>"
     ++ codes "<thread id=\"p1.2\" name=\"hart 1\">driver &gt; consumer &gt; driver, waiting</thread>"
-    ++ codes "<thread id=\"p1.3\" name=\"hart 2\">producer, halted</thread></threads>"
+    ++ codes "<thread id=\"p1.3\" name=\"hart 2\">producer, halted by exit, code 5</thread></threads>"
 unfolding digits short_digits
 threads = refl
 
@@ -137,7 +139,8 @@ lowest = refl
 no_segment : lowest_of [] ≡ 0
 no_segment = refl
 
-library : library_at (codes "a<b&\">.elf") 0x80000400 ≡ codes "<library name=\"a&lt;b&amp;&quot;&gt;.elf\"><segment address=\"0x80000400\"/></library>"
+library : library_at (codes "a<b&\">.elf") 0x80000400 ≡ codes
+    "<library name=\"a&lt;b&amp;&quot;&gt;.elf\"><segment address=\"0x80000400\"/></library>"
 unfolding short_digits
 library = refl
 
@@ -217,7 +220,8 @@ before = refl
 bus : fault_signal 0 ++ fault_signal 4 ++ fault_signal 6 ++ fault_signal 19 ≡ codes "T0aT0aT0aT0a"
 bus = refl
 
-segment_fault : fault_signal 1 ++ fault_signal 5 ++ fault_signal 7 ++ fault_signal 16 ++ fault_signal 17 ++ fault_signal 18 ≡ codes "T0bT0bT0bT0bT0bT0b"
+segment_fault : fault_signal 1 ++ fault_signal 5 ++ fault_signal 7 ++ fault_signal 16 ++ fault_signal 17 ++ fault_signal 18
+    ≡ codes "T0bT0bT0bT0bT0bT0b"
 segment_fault = refl
 
 others : fault_signal 2 ++ fault_signal 3 ++ fault_signal 20 ≡ codes "T04T05T06"

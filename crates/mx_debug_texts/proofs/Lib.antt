@@ -1,3 +1,4 @@
+pub mod StatusLaws
 pub mod WindowLaws
 pub mod RightLaws
 pub mod ToldLaws

@@ -1,5 +1,6 @@
 -- Tests of numbers, and rights with commas between them.
-use Rattle.std.proofs.Common.{◌≡◌, ◌≢◌, ℕ, suc, ◌+◌, ◌≤◌, ◌==◌, Bool, true, false, not, ◌||◌, nat_lt, List, [], ◌∷◌, ◌++◌, length, drop, codes, if◌then◌else◌, refl, ap, sym, ◌∙◌, arith, length-append}
+use Rattle.std.proofs.Common.{◌≡◌, ◌≢◌, ℕ, suc, ◌+◌, ◌≤◌, ◌==◌, Bool, true, false, not, ◌||◌, nat_lt, List, [], ◌∷◌, ◌++◌, length, drop}
+use Rattle.std.proofs.Common.{codes, if◌then◌else◌, refl, ap, sym, ◌∙◌, arith, length-append}
 use Rattle.std.proofs.lemmas.List.{append-nil, drop-append-le}
 use Rattle.mx_debug_texts.specs.Documents.{comma, rights_text}
 
@@ -26,11 +27,13 @@ pub any_more : (none some : Bool) (rights text : List ℕ) → AreAny some right
 any_more true false rights text any = append-nil rights ∙ any
 any_more true true rights text any = let e : length (rights ++ []) ≡ length rights = ap length (append-nil rights) in omega (arith, e, any)
 any_more false false rights text any =
-    let e : length (rights ++ (codes ", " ++ text)) ≡ length rights + length (codes ", " ++ text) = length-append rights (codes ", " ++ text) in
+    let e : length (rights ++ (codes ", " ++ text)) ≡ length rights + length (codes ", " ++ text) =
+    length-append rights (codes ", " ++ text) in
     let f : length (codes ", " ++ text) ≡ 2 + length text = length-append (codes ", ") text in
     omega (arith, e, f)
 any_more false true rights text any =
-    let e : length (rights ++ (codes ", " ++ text)) ≡ length rights + length (codes ", " ++ text) = length-append rights (codes ", " ++ text) in
+    let e : length (rights ++ (codes ", " ++ text)) ≡ length rights + length (codes ", " ++ text) =
+    length-append rights (codes ", " ++ text) in
     omega (arith, e, any)
 
 pub any_told : (some : Bool) (rights : List ℕ) → AreAny some rights → some ≡ nat_lt 0 (length rights)

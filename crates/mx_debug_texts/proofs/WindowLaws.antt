@@ -1,5 +1,7 @@
 -- A part of a text that goes on.
-use Rattle.std.proofs.Common.{◌≡◌, ◌⊎◌, ℕ, zero, suc, ◌+◌, ◌-◌, ◌<◌, ◌≤◌, Bool, true, false, ◌||◌, nat_lt, List, [], ◌∷◌, ◌++◌, length, min, take, drop, get_or, flat_map, Some, None, inl, inr, refl, ap, sym, ◌∙◌, arith, append_assoc, drop-cons, length-append}
+use Rattle.std.proofs.Common.{◌≡◌, ◌⊎◌, ℕ, zero, suc, ◌+◌, ◌-◌, ◌<◌, ◌≤◌, Bool, true, false, ◌||◌, nat_lt, List, [], ◌∷◌, ◌++◌, length, min}
+use Rattle.std.proofs.Common.{take, drop, get_or, flat_map, Some, None, inl, inr, refl, ap, sym, ◌∙◌, arith, append_assoc, drop-cons}
+use Rattle.std.proofs.Common.{length-append}
 use Rattle.std.specs.List.{range_with_len}
 use Rattle.std.proofs.Math.Seq.{drop-append-add}
 use Rattle.std.proofs.lemmas.List.{append-nil, drop-append-le, length-take, take_all}
@@ -37,7 +39,8 @@ take_none zero = refl
 take_none (suc n) = refl
 
 pub take_append : (n : ℕ) (xs ys : List ℕ) → take n (xs ++ ys) ≡ take n xs ++ take (n - length xs) ys
-take_append n [] ys = (let e : n ≡ n - 0 = omega arith in ap (λ (zs : List ℕ). zs ++ take n ys) (sym (take_none n)) ∙ ap (λ k. take n [] ++ take k ys) e)
+take_append n [] ys = (let e : n ≡ n - 0 = omega arith in ap (λ (zs : List ℕ). zs ++ take n ys) (sym (take_none n))
+    ∙ ap (λ k. take n [] ++ take k ys) e)
 take_append zero (x ∷ xs) ys = let e : 0 - length (x ∷ xs) ≡ 0 = omega arith in ap (λ k. take k ys) (sym e)
 take_append (suc n) (x ∷ xs) ys =
     let e : n - length xs ≡ suc n - length (x ∷ xs) = omega arith in
@@ -67,8 +70,10 @@ further_more p a b =
     append_assoc p.held (take k ra) (take (p.most - length (p.held ++ take k ra)) rb)
     ∙ ap (λ n. p.held ++ (take k ra ++ take n rb)) room
     ∙ ap (λ (zs : List ℕ). p.held ++ zs) (sym (take_append k ra rb) ∙ ap (take k) all) in
-    part_is p (p.skip - length a - length b) (p.skip - length (a ++ b)) ((p.held ++ take k ra) ++ take (p.most - length (p.held ++ take k ra)) rb) (p.held ++ take k (drop p.skip (a ++ b)))
-    ((p.over || nat_lt k (length ra)) || nat_lt (p.most - length (p.held ++ take k ra)) (length rb)) (p.over || nat_lt k (length (drop p.skip (a ++ b))))
+    part_is p (p.skip - length a - length b) (p.skip - length (a ++ b))
+    ((p.held ++ take k ra) ++ take (p.most - length (p.held ++ take k ra)) rb) (p.held ++ take k (drop p.skip (a ++ b)))
+    ((p.over || nat_lt k (length ra)) || nat_lt (p.most - length (p.held ++ take k ra)) (length rb))
+    (p.over || nat_lt k (length (drop p.skip (a ++ b))))
     (omega (arith, long)) held
     (over_more p.over k (p.most - length (p.held ++ take k ra)) (length ra) (length rb) (length (drop p.skip (a ++ b))) room both)
 
@@ -82,9 +87,12 @@ unfolding further with_held
 further_none p =
     let k = p.most - length p.held in
     let rest : drop {A = ℕ} p.skip [] ≡ [] = none_of p.skip in
-    let held : p.held ++ take k (drop {A = ℕ} p.skip []) ≡ p.held = ap (λ (zs : List ℕ). p.held ++ take k zs) rest ∙ ap (λ (zs : List ℕ). p.held ++ zs) (take_none k) ∙ append-nil p.held in
-    let over : (p.over || nat_lt k (length (drop {A = ℕ} p.skip []))) ≡ p.over = ap (λ (zs : List ℕ). p.over || nat_lt k (length zs)) rest ∙ not_over p.over k in
-    part_is p p.skip (p.skip - 0) p.held (p.held ++ take k (drop {A = ℕ} p.skip [])) p.over (p.over || nat_lt k (length (drop {A = ℕ} p.skip [])))
+    let held : p.held ++ take k (drop {A = ℕ} p.skip []) ≡ p.held = ap (λ (zs : List ℕ). p.held ++ take k zs) rest
+    ∙ ap (λ (zs : List ℕ). p.held ++ zs) (take_none k) ∙ append-nil p.held in
+    let over : (p.over || nat_lt k (length (drop {A = ℕ} p.skip []))) ≡ p.over = ap (λ (zs : List ℕ). p.over || nat_lt k (length zs)) rest
+    ∙ not_over p.over k in
+    part_is p p.skip (p.skip - 0) p.held (p.held ++ take k (drop {A = ℕ} p.skip [])) p.over
+    (p.over || nat_lt k (length (drop {A = ℕ} p.skip [])))
     (omega arith) (sym held) (sym over)
 
 -- a text after another
@@ -101,7 +109,8 @@ pub puts_item : {X : Type 0} (f : X → List ℕ) (p q r : Part) (xs : List X) (
 puts_item f p q r xs i d few is next =
     let b = get_or xs i d in
     puts_more p q r (flat_map f (take i xs)) (f b) (flat_map f (take (i + 1) xs)) is next
-    (ap (flat_map f) (take_at_read xs i d few).1 ∙ flat_map-append f (take i xs) (b ∷ []) ∙ ap (λ (zs : List ℕ). flat_map f (take i xs) ++ zs) (append-nil (f b)))
+    (ap (flat_map f) (take_at_read xs i d few).1 ∙ flat_map-append f (take i xs) (b ∷ [])
+    ∙ ap (λ (zs : List ℕ). flat_map f (take i xs) ++ zs) (append-nil (f b)))
 
 next_place : (i : ℕ) → suc i ≡ i + 1
 next_place i = omega arith
@@ -116,7 +125,8 @@ pub puts_got : {X : Type 0} (f : X → List ℕ) (p q r : Part) (xs : List X) (i
 puts_got f p q r xs i x got is next =
     puts_item f p q r xs i x (slice_get_within xs i x got) is (next ∙ ap (λ y. further q (f y)) (sym (get_or_from_slice_get xs i x x got)))
 
-past_by : {X : Type 0} (xs : List X) (i : ℕ) → ((x : X) × (i < length xs) × (slice_get xs i ≡ Some x) × (get_or xs i x ≡ x)) ⊎ ((length xs ≤ i) × (slice_get xs i ≡ None)) → slice_get xs i ≡ None → take i xs ≡ xs
+past_by : {X : Type 0} (xs : List X) (i : ℕ) → ((x : X) × (i < length xs) × (slice_get xs i ≡ Some x) × (get_or xs i x ≡ x))
+    ⊎ ((length xs ≤ i) × (slice_get xs i ≡ None)) → slice_get xs i ≡ None → take i xs ≡ xs
 past_by xs i (inl there) none = cc (there.2, none)
 past_by xs i (inr past) none = take_all i xs past.0
 

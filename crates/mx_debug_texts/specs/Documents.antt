@@ -1,5 +1,6 @@
 -- The documents of a debugger's session: what is told of the harts, the images and the memory, and why a run stops.
-use Rattle.std.specs.Prelude.{ℕ, ◌+◌, ◌-◌, ◌*◌, ◌<◌, Bool, true, false, ◌==◌, ◌||◌, nat_lt, List, [], ◌∷◌, ◌++◌, length, drop, min, flat_map, codes, decimal, slice_index_or, Option, Some, None, Result, Ok, Err, if◌then◌else◌}
+use Rattle.std.specs.Prelude.{ℕ, ◌+◌, ◌-◌, ◌*◌, ◌<◌, Bool, true, false, ◌==◌, ◌||◌, nat_lt, List, [], ◌∷◌, ◌++◌, length, drop, min}
+use Rattle.std.specs.Prelude.{flat_map, codes, decimal, slice_index_or, Option, Some, None, Result, Ok, Err, if◌then◌else◌}
 use Rattle.std.specs.Prelude.{map as list_map}
 use Rattle.std.specs.List.{concat, range_with_len}
 use Rattle.mx_words.specs.declared.perm.Perm.{Perm}
@@ -19,10 +20,9 @@ use Rattle.mx_model.specs.declared.values.Gate.{Gate}
 use Rattle.mx_model.specs.declared.values.Note.{Note}
 use Rattle.mx_model.specs.declared.values.Note.TheVariants as N
 use Rattle.mx_model.specs.Reads.{flat_reads}
-use Rattle.mx_model.specs.State.{Core, Flat, Hart, hart_at}
+use Rattle.mx_model.specs.State.{Core, Flat, Hart, Status, Running, Waiting, Halted, hart_at}
 use Rattle.mx_machine.specs.declared.views.HartStatus.{HartStatus}
 use Rattle.mx_machine.specs.declared.views.HartStatus.TheVariants as V
-use Rattle.mx_machine.specs.Readings.{status_told}
 use Rattle.mx_report.specs.Lines.{note_line, permission_name}
 use Rattle.mx_debug_texts.specs.declared.document.Document.{Document}
 use Rattle.mx_debug_texts.specs.declared.document.Document.TheVariants as D
@@ -47,12 +47,21 @@ path_text plan arrow hart =
     flat_map (λ (f : Frame). name_of plan f.caller ++ arrow) hart.frames ++ name_of plan hart.domain
 
 -- its status, and whether the next turn of the run is its own
-abbrev pub status_text : HartStatus → Bool → List ℕ
-status_text V.Running false = codes ", running"
-status_text V.Running true = codes ", running, next"
-status_text V.Waiting false = codes ", waiting"
-status_text V.Waiting true = codes ", waiting, next"
-status_text V.Halted next = codes ", halted"
+abbrev pub status_text : Status → Bool → List ℕ
+status_text Running false = codes ", running"
+status_text Running true = codes ", running, next"
+status_text (Waiting call heard) false = codes ", waiting"
+status_text (Waiting call heard) true = codes ", waiting, next"
+status_text (Halted None) next = codes ", halted by a fault"
+status_text (Halted (Some code)) next = concat (codes ", halted by exit, code " ∷ decimal code ∷ [])
+
+-- the same of a hart that no exit has ended, by what is told of its status
+abbrev pub unended_text : HartStatus → Bool → List ℕ
+unended_text V.Running false = codes ", running"
+unended_text V.Running true = codes ", running, next"
+unended_text V.Waiting false = codes ", waiting"
+unended_text V.Waiting true = codes ", waiting, next"
+unended_text V.Halted next = codes ", halted by a fault"
 
 abbrev pub is_next : Option ℕ → ℕ → Bool
 is_next None h = false
@@ -61,7 +70,7 @@ is_next (Some n) h = n == h
 -- what is told of a hart
 abbrev pub hart_text : Said → List ℕ → Core → Option ℕ → ℕ → List ℕ
 hart_text plan arrow c next h =
-    path_text plan arrow (hart_at c h) ++ status_text (status_told (hart_at c h).status) (is_next next h)
+    path_text plan arrow (hart_at c h) ++ status_text (hart_at c h).status (is_next next h)
 
 -- the threads: one for each hart
 abbrev pub thread_head : ℕ → List ℕ

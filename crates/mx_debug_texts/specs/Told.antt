@@ -1,5 +1,6 @@
 -- How documents are told: a part that is asked for, in pairs of digits, and as texts of the console.
-use Rattle.std.specs.Prelude.{ℕ, zero, suc, ◌+◌, Bool, List, [], ◌∷◌, ◌++◌, length, take, drop, min, flat_map, nat_lt, Option, Some, None, if◌then◌else◌}
+use Rattle.std.specs.Prelude.{ℕ, zero, suc, ◌+◌, Bool, List, [], ◌∷◌, ◌++◌, length, take, drop, min, flat_map, nat_lt, Option, Some, None}
+use Rattle.std.specs.Prelude.{if◌then◌else◌}
 use Rattle.mx_model.specs.declared.values.Note.{Note}
 use Rattle.mx_model.specs.declared.values.Note.TheVariants as N
 use Rattle.mx_packets.specs.Frames.{cut, pair}

@@ -3,7 +3,8 @@
 ghost use Rattle.std.specs.Prelude.{◌≡◌};
 ghost use Rattle.mx_any.specs.Machines.{meaning};
 ghost use Rattle.mx_report.specs.Lines.{exit_line, fault_line, note_line};
-ghost use Rattle.mx_debug_texts.specs.Documents.{cause_text, denied_text, fault_head, fault_signal, is_denial, noted_text, over_text, reason_text};
+ghost use Rattle.mx_debug_texts.specs.Documents.{cause_text, denied_text, fault_head, fault_signal, is_denial};
+ghost use Rattle.mx_debug_texts.specs.Documents.{noted_text, over_text, reason_text};
 ghost use Rattle.mx_debug_texts.specs.Window.{further};
 
 use crate::named::name_of;

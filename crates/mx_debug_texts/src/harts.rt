@@ -4,7 +4,8 @@ ghost use Rattle.std.specs.Prelude.{◌≡◌, ◌<◌, ◌-◌, ◌^◌, ◌++�
 ghost use Rattle.std.specs.List.{range_with_len};
 ghost use Rattle.mx_any.specs.Machines.{meaning};
 ghost use Rattle.mx_model.specs.State.{hart_at};
-ghost use Rattle.mx_debug_texts.specs.Documents.{hart_text, is_next, name_of, path_text, status_text, thread_head, thread_text, threads_text};
+ghost use Rattle.mx_debug_texts.specs.Documents.{hart_text, is_next, name_of, path_text, status_text, thread_head};
+ghost use Rattle.mx_debug_texts.specs.Documents.{thread_text, threads_text, unended_text};
 ghost use Rattle.mx_debug_texts.specs.Window.{further};
 
 use crate::named::put_name;
@@ -69,8 +70,20 @@ pub(crate) fn put_hart(
         ≡ further window.old (hart_text plan.now arrow.now (meaning machine.now).core next hart) }
 {
     put_path(window, machine, plan, arrow, hart);
-    let place = machine.place(hart);
-    window.put(status(place.status, is_next(next, hart)));
+    put_status(window, machine, hart, is_next(next, hart));
+}
+
+fn put_status(window: &mut Window, machine: &AnyMachine, hart: u32, next: bool)
+    requires { hart < length (meaning machine.now).core.harts }
+    ensures { window.new ≡ further window.old (status_text (hart_at (meaning machine.now).core hart).status next) }
+{
+    match machine.exit(hart) {
+        Some(code) => window.put_pieces(&[
+            Piece::Text(", halted by exit, code "),
+            Piece::Number(code as u64),
+        ]),
+        None => window.put(unended(machine.place(hart).status, next)),
+    }
 }
 
 fn put_path(window: &mut Window, machine: &AnyMachine, plan: &Plan, arrow: &[u8], hart: u32)
@@ -121,14 +134,15 @@ fn is_next(next: Option<u32>, hart: u32) -> bool
     }
 }
 
-fn status(status: HartStatus, next: bool) -> &'static [u8]
-    ensures { result.now ≡ status_text status next }
+// The status of a hart that no exit has ended.
+fn unended(status: HartStatus, next: bool) -> &'static [u8]
+    ensures { result.now ≡ unended_text status next }
 {
     match (status, next) {
         (HartStatus::Running, false) => b", running",
         (HartStatus::Running, true) => b", running, next",
         (HartStatus::Waiting, false) => b", waiting",
         (HartStatus::Waiting, true) => b", waiting, next",
-        (HartStatus::Halted, _) => b", halted",
+        (HartStatus::Halted, _) => b", halted by a fault",
     }
 }

@@ -4,7 +4,9 @@ ghost use Rattle.std.specs.Prelude.{◌≡◌, ◌<◌, ◌≤◌, ◌-◌, ◌^
 ghost use Rattle.std.specs.List.{range_with_len};
 ghost use Rattle.mx_words.specs.Ranges.{most_words};
 ghost use Rattle.mx_elf.specs.Image.{image_of};
-ghost use Rattle.mx_debug_texts.specs.Documents.{file_at, file_text, known_by, libraries_text, library_at, library_named, library_text, lowest_from, lowest_from, lowest_in, lowest_of, memory_text, file_named};
+ghost use Rattle.mx_debug_texts.specs.Documents.{file_at, file_text, known_by, libraries_text, library_at};
+ghost use Rattle.mx_debug_texts.specs.Documents.{library_named, library_text, lowest_from, lowest_from, lowest_in};
+ghost use Rattle.mx_debug_texts.specs.Documents.{lowest_of, memory_text, file_named};
 ghost use Rattle.mx_debug_texts.specs.Window.{further};
 
 use crate::named::{Named, file_at, first_domain};

@@ -1,4 +1,5 @@
-//! The documents of a debugger's session, told in parts of any place and length: the harts with their paths through gates, the images,
+//! The documents of a debugger's session, told in parts of any place and length: the harts with their paths through
+//! gates, the images,
 //! the memory, and why a run stops. No call takes memory.
 #![tactic(auto)]
 

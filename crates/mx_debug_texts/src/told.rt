@@ -6,7 +6,8 @@ ghost use Rattle.mx_packets.specs.Frames.{cut};
 ghost use Rattle.mx_packets.specs.Lines.{SpeaksOrFails};
 ghost use Rattle.mx_packets.specs.Streams.{sent};
 ghost use Rattle.mx_debug_texts.specs.Documents.{IsThere, document_text, known_by};
-ghost use Rattle.mx_debug_texts.specs.Told.{chunks_said, document_said, mark_by, most_shown, note_signal, pairs, shown_text, window_text};
+ghost use Rattle.mx_debug_texts.specs.Told.{chunks_said, document_said, mark_by, most_shown, note_signal, pairs};
+ghost use Rattle.mx_debug_texts.specs.Told.{shown_text, window_text};
 
 use crate::document::{Document, put_document};
 use crate::faults::fault_signal;
@@ -26,7 +27,8 @@ const MOST_PAIRS: u32 = 2048;
 /// The most bytes of one text for the console.
 const MOST_SHOWN: u32 = 2040;
 
-/// Adds a part of a document: so many bytes from a place on, at most 4000, behind a byte that tells whether more of it follows.
+/// Adds a part of a document: so many bytes from a place on, at most 4000, behind a byte that tells whether more of it
+/// follows.
 pub fn put_part(
     answer: &mut Answer,
     machine: &AnyMachine,

@@ -5,7 +5,8 @@ ghost use Rattle.mx_any.specs.Machines.{meaning};
 ghost use Rattle.mx_model.specs.Reads.{flat_reads};
 ghost use Rattle.mx_report.specs.Lines.{permission_name};
 ghost use Rattle.mx_words.specs.Ranges.{address_of, most_words};
-ghost use Rattle.mx_debug_texts.specs.Documents.{comma, gate_here, gate_text, is_none, name_of, next_right, owned_text, owner_text, right_of, rights_at, rights_text, who_text, word_text};
+ghost use Rattle.mx_debug_texts.specs.Documents.{comma, gate_here, gate_text, is_none, name_of, next_right, owned_text};
+ghost use Rattle.mx_debug_texts.specs.Documents.{owner_text, right_of, rights_at, rights_text, who_text, word_text};
 ghost use Rattle.mx_debug_texts.specs.Window.{further};
 
 use crate::named::name_of;

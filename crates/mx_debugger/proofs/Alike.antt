@@ -1,5 +1,6 @@
 -- Two runs of which every list that is made of them is the same: a talk about one is a talk about the other.
-use Rattle.std.proofs.Common.{◌≡◌, ◌<◌, length, ℕ, Bool, true, false, List, [], ◌∷◌, ◌++◌, Result, Ok, Err, refl, sym, ap, subst, ◌∙◌, inl, inr}
+use Rattle.std.proofs.Common.{◌≡◌, ◌<◌, length, ℕ, Bool, true, false, List, [], ◌∷◌, ◌++◌, Result, Ok, Err, refl, sym, ap, subst, ◌∙◌, inl}
+use Rattle.std.proofs.Common.{inr}
 use Rattle.mx_packets.specs.Lines.{Fails, Speaks}
 use Rattle.mx_debug.specs.Session.{Looked}
 use Rattle.mx_debug.specs.Talks.{Answered, Byte, Dialogue, IsOver, Talk, all_of, first_talk, said_to, talk_after, talk_pieces}
@@ -13,7 +14,8 @@ AreAlike p q = (list : Looked → List ℕ) → list p ≡ list q
 abbrev after : Looked → List (List Byte) → Talk
 after q front = talk_pieces q first_talk front
 
-pieces_more : (q : Looked) (t : Talk) (front : List (List Byte)) (piece : List Byte) → talk_pieces q t (front ++ piece ∷ []) ≡ talk_after q (talk_pieces q t front) piece
+pieces_more : (q : Looked) (t : Talk) (front : List (List Byte)) (piece : List Byte)
+    → talk_pieces q t (front ++ piece ∷ []) ≡ talk_after q (talk_pieces q t front) piece
 pieces_more q t [] piece = refl
 pieces_more q t (p ∷ front) piece = pieces_more q (talk_after q t p) front piece
 
@@ -33,14 +35,17 @@ module _ (p q : Looked) (alike : AreAlike p q) where
   same_left pieces is = of_list (after q pieces).left (ap to_list (sym is) ∙ alike (λ r. to_list (after r pieces).left))
 
   module _ {L : Type 0} (hears says : L → List ℕ → L → Type 0) (room : L → ℕ) where
-    dialogue_on : (front pieces : List (List Byte)) (t u : Talk) (l m : L) → t ≡ after p front → u ≡ after q front → Dialogue hears says room p t l pieces m
+    dialogue_on : (front pieces : List (List Byte)) (t u : Talk) (l m : L) → t ≡ after p front → u ≡ after q front
+        → Dialogue hears says room p t l pieces m
         → Dialogue hears says room q u l pieces m
     dialogue_on front [] t u l m at on d = d
     dialogue_on front (piece ∷ more) t u l m at on d =
         let said : said_to p t piece ≡ said_to q u piece =
         ap (λ (x : Talk). said_to p x piece) at ∙ same_said front piece ∙ sym (ap (λ (x : Talk). said_to q x piece) on) in
-        let next : talk_after p t piece ≡ after p (front ++ piece ∷ []) = ap (λ (x : Talk). talk_after p x piece) at ∙ sym (pieces_more p first_talk front piece) in
-        let following : talk_after q u piece ≡ after q (front ++ piece ∷ []) = ap (λ (x : Talk). talk_after q x piece) on ∙ sym (pieces_more q first_talk front piece) in (
+        let next : talk_after p t piece ≡ after p (front ++ piece ∷ []) = ap (λ (x : Talk). talk_after p x piece) at
+        ∙ sym (pieces_more p first_talk front piece) in
+        let following : talk_after q u piece ≡ after q (front ++ piece ∷ []) = ap (λ (x : Talk). talk_after q x piece) on
+        ∙ sym (pieces_more q first_talk front piece) in (
           d.0,
           d.1,
           d.2,
@@ -50,9 +55,14 @@ module _ (p q : Looked) (alike : AreAlike p q) where
         )
 
     over_on : (pieces : List (List Byte)) → IsOver p first_talk pieces → IsOver q first_talk pieces
-    over_on pieces over = elim over [ inl end ↦ inl end | inr more ↦ inr (elim more [ inl left ↦ inl (same_left pieces left) | inr many ↦ inr many ]) ]
+    over_on pieces over = elim over [
+      | inl end ↦ inl end
+      | inr more ↦
+          inr (elim more [ inl left ↦ inl (same_left pieces left) | inr many ↦ inr many ])
+    ]
 
-    answered_on : {A E : Type 0} (l m : L) (result : Result A E) → Answered hears says room p l m result → Answered hears says room q l m result
+    answered_on : {A E : Type 0} (l m : L) (result : Result A E) → Answered hears says room p l m result
+        → Answered hears says room q l m result
     answered_on l m (Ok a) w =
         record {
           pieces = w.pieces;

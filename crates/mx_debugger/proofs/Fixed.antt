@@ -37,7 +37,12 @@ whole text other a = sym a.grows
 
 ends_full : (texts : Texts) → Ends (made_of texts) empty (full texts) Ran
 ends_full texts =
-    let holds : Holds texts empty (full texts) = record { console = grown texts.console; report = grown texts.report; dump = grown texts.dump } in
+    let holds : Holds texts empty (full texts) = record {
+      console = grown texts.console;
+      report = grown texts.report;
+      dump =
+          grown texts.dump;
+    } in
     let kept : CountsKept empty (full texts) = record { console = refl; report = refl; dump = refl } in
     record { how = inl (refl, holds, kept); sure = λ room. (refl, holds, kept) }
 
@@ -56,8 +61,10 @@ of_texts texts outcome (inl h) =
     }
 of_texts texts outcome (inr h) = absurd (no_fault h.0 h.1)
 
-pub led : {S : Type 0} (gives : S → Answer → S → Type 0) (step : List Finding → Next) (texts : Texts) (s t : S) → Comes step gives s t (λ more. End (record { status = Ran; texts = texts }))
+pub led : {S : Type 0} (gives : S → Answer → S → Type 0) (step : List Finding → Next) (texts : Texts) (s t : S)
+    → Comes step gives s t (λ more. End (record { status = Ran; texts = texts }))
     → (answers : List Answer) × Talks gives s answers t × ((outcome : Outcome) × LeadsTo step answers outcome × IsOf texts outcome)
 led gives step texts s t comes =
-    let c = comes t empty (full texts) Ran (continues_end gives (λ more. End (made_of texts)) (made_of texts) refl t (inl (ends_full texts))) in
+    let c = comes t empty (full texts) Ran (continues_end gives (λ more. End (made_of texts)) (made_of texts) refl t
+    (inl (ends_full texts))) in
     (c.0, c.1, elim c.2 [ inl h ↦ (h.0, h.1, of_texts texts h.0 h.2.how) | inr w ↦ let e : Ran ≡ WantOfMemory = w.0 in cc ])

@@ -28,7 +28,6 @@ pub(crate) fn debug_manifest<S: Store, L: Line, R: Sink>(
     line: &mut L,
     report: &mut R,
 ) -> Status
-    requires { order.now.steps < 10 ^ 10 }
     ensures { Debugs S.gives L.hears L.says L.room (Some (order_of order.now)) store.old store.new
         line.old line.new (R.state report.old) (R.state report.new) result }
 {
@@ -48,7 +47,6 @@ fn debug_loaded<S: Store, L: Line, R: Sink>(
     line: &mut L,
     report: &mut R,
 ) -> Status
-    requires few { order.now.steps < 10 ^ 10 }
     requires unmoved { (meaning loaded.machine).core.turns ≡ 0 }
     requires fits { AreInputs loaded.plan loaded.inputs.items }
     requires boots { (s : State) × (boot_of loaded.plan loaded.images.items loaded.inputs.items ≡ Ok s) }
@@ -117,7 +115,6 @@ fn talk_by<L: Line>(
     machine: &mut AnyMachine,
     line: &mut L,
 ) -> Status
-    requires small { course.now.most < 10 ^ 10 }
     requires course { IsCourse course.now }
     requires unmoved { (meaning machine.old).core.turns ≡ 0 }
     ensures { (run : Looked) → IsRunOf run course.now → IsAt run 0 (meaning machine.old) →

@@ -8,13 +8,17 @@ use Rattle.mx_debug.proofs.again.machine_at.Goals as goal
 pub run_on_by-requires-clause-few : goal.run_on_by-requires-clause-few
 run_on_by-requires-clause-few c =
     let b = c.in-Ok.ensures in
-    let none : (meaning c.in-Ok.machine).core.turns ≡ 0 = ap (λ (f : Flat). f.core.turns) b.2 ∙ ap (λ (s : State). s.core.turns) (sym (booted c.args.origin.now.plan.now c.args.origin.now.images.now c.args.origin.now.inputs.now b.0 b.1).1) in
+    let none : (meaning c.in-Ok.machine).core.turns ≡ 0 = ap (λ (f : Flat). f.core.turns) b.2
+    ∙ ap (λ (s : State). s.core.turns) (sym (booted c.args.origin.now.plan.now c.args.origin.now.images.now c.args.origin.now.inputs.now
+    b.0 b.1).1) in
     omega (arith, none, c.requires.few)
 
 pub returns-in-Ok-clause-few : goal.returns-in-Ok-clause-few
 returns-in-Ok-clause-few c =
     let b = c.in-Ok.ensures in
-    let none : (meaning c.in-Ok.machine).core.turns ≡ 0 = ap (λ (f : Flat). f.core.turns) b.2 ∙ ap (λ (s : State). s.core.turns) (sym (booted c.args.origin.now.plan.now c.args.origin.now.images.now c.args.origin.now.inputs.now b.0 b.1).1) in
+    let none : (meaning c.in-Ok.machine).core.turns ≡ 0 = ap (λ (f : Flat). f.core.turns) b.2
+    ∙ ap (λ (s : State). s.core.turns) (sym (booted c.args.origin.now.plan.now c.args.origin.now.images.now c.args.origin.now.inputs.now
+    b.0 b.1).1) in
     let count = c.run_on_by.ensures.count in
     omega (arith, none, count)
 

@@ -10,7 +10,8 @@ invariant-turns l = record {
   within : l.made ≤ l.turns;
   count : (meaning l.machine).core.turns ≡ (meaning l.fn.machine).core.turns + l.made;
   pace : IsPace (schedule_of l.schedule) (meaning l.machine).core l.pace;
-  place : (q : Looked) (k : ℕ) → q.schedule ≡ schedule_of l.schedule → IsAt q k (meaning l.fn.machine) → IsAt q (k + l.made) (meaning l.machine);
+  place : (q : Looked) (k : ℕ) → q.schedule ≡ schedule_of l.schedule → IsAt q k (meaning l.fn.machine)
+      → IsAt q (k + l.made) (meaning l.machine);
 }
 
 abbrev pub decreases-turns : goal.decreases-turns

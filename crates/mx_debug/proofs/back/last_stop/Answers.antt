@@ -13,14 +13,17 @@ pub returns-then-all_halted-clause-finds : goal.returns-then-all_halted-clause-f
 returns-then-all_halted-clause-finds c = λ q is at.
     let m = meaning c.turns.machine in
     let inv = c.turns.invariant in
-    inv.last q is at ∙ sym (nothing_behind q (sought_by c.args.seeking.now) c.args.from c.turns.made c.args.before inv.from inv.within (stopped_halted q c.turns.made m (inv.place q is at) (sym c.if-all_halted.ensures)))
+    inv.last q is at ∙ sym (nothing_behind q (sought_by c.args.seeking.now) c.args.from c.turns.made c.args.before inv.from inv.within
+    (stopped_halted q c.turns.made m (inv.place q is at) (sym c.if-all_halted.ensures)))
 
 pub returns-in_default-clause-finds : goal.returns-in_default-clause-finds
 returns-in_default-clause-finds c = λ q is at.
     let m = meaning c.turns.machine in
     let inv = c.turns.invariant in
-    let over = subst (λ (o : Option (ℕ × ℕ)). IsNamed q.schedule m.core (c.args.before - c.turns.made) o) c.in_default.is (c.next_hart.ensures.named q.schedule m.core (rw is.schedule inv.pace)) in
-    inv.last q is at ∙ sym (nothing_behind q (sought_by c.args.seeking.now) c.args.from c.turns.made c.args.before inv.from inv.within (stopped_over q c.turns.made m (inv.place q is at) over))
+    let over = subst (λ (o : Option (ℕ × ℕ)). IsNamed q.schedule m.core (c.args.before - c.turns.made) o) c.in_default.is
+    (c.next_hart.ensures.named q.schedule m.core (rw is.schedule inv.pace)) in
+    inv.last q is at ∙ sym (nothing_behind q (sought_by c.args.seeking.now) c.args.from c.turns.made c.args.before inv.from inv.within
+    (stopped_over q c.turns.made m (inv.place q is at) over))
 
 pub returns-clause-finds : goal.returns-clause-finds
 returns-clause-finds c = λ q is at.
@@ -49,16 +52,22 @@ turns-preserved c =
       place = λ q is at.
           let going = sym c.if-all_halted.ensures in
           let row = c.in-Some.ensures.named q.schedule m.core (rw is.schedule inv.pace) in
-          stretch_place q m k (k + (n + 1)) (inv.place q is at) going h (c.args.before - k) c.in-Some.row row c.row_of-row.result upto new c.run_on-stretch.new.out c.run_on-stretch.result c.run_on-stretch.ensures (omega arith);
+          stretch_place q m k (k + (n + 1)) (inv.place q is at) going h (c.args.before - k) c.in-Some.row row c.row_of-row.result upto new
+          c.run_on-stretch.new.out c.run_on-stretch.result c.run_on-stretch.ensures (omega arith);
       last = λ q is at.
           let going = sym c.if-all_halted.ensures in
           let row = c.in-Some.ensures.named q.schedule m.core (rw is.schedule inv.pace) in
-          let fits : k + c.in-Some.row ≤ q.most = (let x = row.few in let b = c.requires.within in let all = is.most in omega (arith, x, b, all, c.turns-test.true)) in
+          let fits : k + c.in-Some.row ≤ q.most = (let x = row.few in let b = c.requires.within in let all = is.most in
+          omega (arith, x, b, all, c.turns-test.true)) in
           let less : n < c.in-Some.row = omega (arith, few, upto) in
           c.later_stop-last.ensures
-          ∙ ap (row_back a.hart h k c.last_stood-stood.result n c.run_on-stretch.result.last c.run_on-stretch.new.out.note) (inv.last q is at)
-          ∙ sym (row_last q a m k (inv.place q is at) going h (c.args.before - k) c.in-Some.row row fits c.args.from n inv.from less c.run_on-stretch.ensures.ran
-          c.run_on-stretch.result.last c.run_on-stretch.new.out.note c.run_on-stretch.ensures.kind c.run_on-stretch.ensures.told.note c.stands_at-stands.result c.last_stood-stood.result c.stands_at-stands.ensures c.last_stood-stood.ensures
+          ∙ ap (row_back a.hart h k c.last_stood-stood.result n c.run_on-stretch.result.last c.run_on-stretch.new.out.note)
+          (inv.last q is at)
+          ∙ sym (row_last q a m k (inv.place q is at) going h (c.args.before - k) c.in-Some.row row fits c.args.from n inv.from less
+          c.run_on-stretch.ensures.ran
+          c.run_on-stretch.result.last c.run_on-stretch.new.out.note c.run_on-stretch.ensures.kind c.run_on-stretch.ensures.told.note
+          c.stands_at-stands.result c.last_stood-stood.result c.stands_at-stands.ensures c.last_stood-stood.ensures
           (λ many. c.row_of-row.ensures.free (omega (arith, many, few))));
-      below = rw c.later_stop-last.ensures (row_below a.hart h k c.last_stood-stood.result n c.run_on-stretch.result.last c.run_on-stretch.new.out.note c.turns.last inv.below);
+      below = rw c.later_stop-last.ensures (row_below a.hart h k c.last_stood-stood.result n c.run_on-stretch.result.last
+          c.run_on-stretch.new.out.note c.turns.last inv.below);
     }

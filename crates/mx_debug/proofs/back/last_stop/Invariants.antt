@@ -13,7 +13,8 @@ invariant-turns l = record {
   within : l.made ≤ l.before;
   turns : (meaning l.machine).core.turns ≤ l.made;
   pace : IsPace (schedule_of l.seeking.schedule) (meaning l.machine).core l.pace;
-  place : (q : Looked) → IsRunBy q (schedule_of l.seeking.schedule) l.seeking.most → IsAt q l.from (meaning l.fn.machine) → IsAt q l.made (meaning l.machine);
+  place : (q : Looked) → IsRunBy q (schedule_of l.seeking.schedule) l.seeking.most → IsAt q l.from (meaning l.fn.machine)
+      → IsAt q l.made (meaning l.machine);
   last : (q : Looked) → IsRunBy q (schedule_of l.seeking.schedule) l.seeking.most → IsAt q l.from (meaning l.fn.machine) →
       l.last ≡ last_stop_from q (sought_by l.seeking) l.from (l.made - l.from);
   below : IfSome l.last (λ found. found.0 ≤ l.made);

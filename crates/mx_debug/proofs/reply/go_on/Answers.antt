@@ -19,12 +19,22 @@ returns-in-Ok-clause-replies g c = λ q is at.
     let machine = meaning c.settle.new.machine in
     let h = c.settle.ensures.replies q is f.place (λ e. past_is q (asked_of s c.args.step) found.made found.stop to f.first (f.past e)) in (
       h.0,
-      subst (λ (t : ℕ × Stop). Replies g.L.Line.says g.L.Line.room q (record { said = shows_to q s.told s.made to ++ (settled q h.0 s t).said; session = (settled q h.0 s t).session; leaves = (settled q h.0 s t).leaves }) c.settle.new.session machine c.args.line.now c.settle.new.line c.settle.result) f.first
-          (replies_behind g.L.Line.says g.L.Line.room q c.args.line.now c.resume.new.line c.settle.new.line (shows_to q s.told s.made to) (settled q h.0 s (found.made, found.stop)) c.settle.new.session machine c.settle.result f.said h.1),
+      subst (λ (t : ℕ × Stop). Replies g.L.Line.says g.L.Line.room q
+          (record {
+            said = shows_to q s.told s.made to ++ (settled q h.0 s t).said;
+            session = (settled q h.0 s t).session;
+            leaves =
+                (settled q h.0 s t).leaves;
+          }) c.settle.new.session machine c.args.line.now c.settle.new.line c.settle.result) f.first
+          (replies_behind g.L.Line.says g.L.Line.room q c.args.line.now c.resume.new.line c.settle.new.line (shows_to q s.told s.made to)
+          (settled q h.0 s (found.made, found.stop)) c.settle.new.session machine c.settle.result f.said h.1),
     )
 
 pub returns-in-Err-clause-replies : goal.returns-in-Err-clause-replies
 returns-in-Err-clause-replies g c = λ q is at.
     let s = c.args.session.now in
-    let to = found_of q s c.args.step in
-    (false, fails_before g.L.Line.says g.L.Line.room c.args.line.now c.resume.new.line (shows_to q s.told s.made to) (settled q false s to).said (c.in-Err.ensures.finds q is at))
+    let to = found_of q s c.args.step in (
+      false,
+      fails_before g.L.Line.says g.L.Line.room c.args.line.now c.resume.new.line (shows_to q s.told s.made to)
+          (settled q false s to).said (c.in-Err.ensures.finds q is at),
+    )

@@ -13,8 +13,10 @@ returns-in-StepBack-clause-replies g c = λ q is at.
     let h = c.go_back.ensures.replies q is at in
     let machine = meaning c.go_back.new.machine in (
       h.0,
-      subst (λ (r : Request). Replies g.L.Line.says g.L.Line.room q (reply q h.0 s r) c.go_back.new.session machine c.args.line.now c.go_back.new.line c.go_back.result) (sym c.in-StepBack.is)
-          (subst (λ j. Replies g.L.Line.says g.L.Line.room q (go_back q h.0 s (Some j)) c.go_back.new.session machine c.args.line.now c.go_back.new.line c.go_back.result) (ap (λ (t : Session). t.followed) c.session.view_is) h.1),
+      subst (λ (r : Request). Replies g.L.Line.says g.L.Line.room q (reply q h.0 s r) c.go_back.new.session machine c.args.line.now
+          c.go_back.new.line c.go_back.result) (sym c.in-StepBack.is)
+          (subst (λ j. Replies g.L.Line.says g.L.Line.room q (go_back q h.0 s (Some j)) c.go_back.new.session machine c.args.line.now
+          c.go_back.new.line c.go_back.result) (ap (λ (t : Session). t.followed) c.session.view_is) h.1),
     )
 
 pub returns-in_default-clause-replies : goal.returns-in_default-clause-replies
@@ -32,5 +34,6 @@ returns-in_default-clause-replies g c = λ q is at.
       kill = h.not-Kill;
     }) in (
       false,
-      subst (λ (r : Reply). Replies g.L.Line.says g.L.Line.room q r c.stand.new.session (meaning c.args.machine.now) c.args.line.now c.stand.new.line c.stand.result) (sym still) (c.stand.ensures.replies q is at),
+      subst (λ (r : Reply). Replies g.L.Line.says g.L.Line.room q r c.stand.new.session (meaning c.args.machine.now) c.args.line.now
+          c.stand.new.line c.stand.result) (sym still) (c.stand.ensures.replies q is at),
     )

@@ -16,5 +16,6 @@ returns-in-Some-clause-replies g c = λ q is at.
     ∙ sym c.thread_hart.ensures ∙ c.in-Some.is) in
     let h = c.go_on.ensures.replies q is at in (
       h.0,
-      subst (λ (o : Option ℕ). Replies g.L.Line.says g.L.Line.room q (step_of q h.0 s o c.args.first c.args.end) c.go_on.new.session (meaning c.go_on.new.machine) c.args.line.now c.go_on.new.line c.go_on.result) (sym eq) h.1,
+      subst (λ (o : Option ℕ). Replies g.L.Line.says g.L.Line.room q (step_of q h.0 s o c.args.first c.args.end) c.go_on.new.session
+          (meaning c.go_on.new.machine) c.args.line.now c.go_on.new.line c.go_on.result) (sym eq) h.1,
     )

@@ -39,4 +39,5 @@ gates-smaller c =
 pub returns : goal.returns
 returns c =
     let gates = (meaning c.args.machine.now).core.gates in
-    sym (sym c.gates.invariant.left ∙ ap (λ (gs : List Gate). has_gate gs c.args.domain c.args.word) (none_drop gates c.gates.i (sym c.in_default.is ∙ c.gate.ensures)))
+    sym (sym c.gates.invariant.left ∙ ap (λ (gs : List Gate). has_gate gs c.args.domain c.args.word)
+    (none_drop gates c.gates.i (sym c.in_default.is ∙ c.gate.ensures)))

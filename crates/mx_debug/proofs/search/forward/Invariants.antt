@@ -14,7 +14,8 @@ invariant-turns g l = record {
   most : l.made ≤ l.asking.most;
   turns : (meaning l.machine).core.turns + l.from ≡ (meaning l.fn.machine).core.turns + l.made;
   pace : IsPace (schedule_of l.asking.schedule) (meaning l.machine).core l.pace;
-  place : (q : Looked) → IsRunBy q (schedule_of l.asking.schedule) l.asking.most → IsAt q l.from (meaning l.fn.machine) → IsAt q l.made (meaning l.machine);
+  place : (q : Looked) → IsRunBy q (schedule_of l.asking.schedule) l.asking.most → IsAt q l.from (meaning l.fn.machine)
+      → IsAt q l.made (meaning l.machine);
   same : (q : Looked) → IsRunBy q (schedule_of l.asking.schedule) l.asking.most → IsAt q l.from (meaning l.fn.machine) →
       forward_from q (asked_by l.asking) l.turns l.from l.fn.known.broke l.fn.known.faulted
       ≡ forward_from q (asked_by l.asking) (l.from + l.turns - l.made) l.made l.known.broke l.known.faulted;

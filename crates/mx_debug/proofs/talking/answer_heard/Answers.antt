@@ -18,7 +18,10 @@ returns-in-Ok-acknowledge-clause-replies g c = λ q is at.
     let h = c.respond.ensures.replies q is at in
     let w = h.0 in (
       w,
-      subst (λ (h : Heard). Replies g.L.Line.says g.L.Line.room q (reply_to q w s packet h) c.respond.new.session machine c.args.line.now c.respond.new.line c.respond.result) (sym c.in-Packet.is)
-          (replies_behind g.L.Line.says g.L.Line.room q c.args.line.now mid c.respond.new.line (mark s 43) (reply q w s (request_of packet)) c.respond.new.session machine c.respond.result c.in-Ok-acknowledge.ensures
-          (subst (λ (r : Request). Replies g.L.Line.says g.L.Line.room q (reply q w s r) c.respond.new.session machine mid c.respond.new.line c.respond.result) c.request_of.ensures h.1)),
+      subst (λ (h : Heard). Replies g.L.Line.says g.L.Line.room q (reply_to q w s packet h) c.respond.new.session machine c.args.line.now
+          c.respond.new.line c.respond.result) (sym c.in-Packet.is)
+          (replies_behind g.L.Line.says g.L.Line.room q c.args.line.now mid c.respond.new.line (mark s 43) (reply q w s (request_of packet))
+          c.respond.new.session machine c.respond.result c.in-Ok-acknowledge.ensures
+          (subst (λ (r : Request). Replies g.L.Line.says g.L.Line.room q (reply q w s r) c.respond.new.session machine mid
+          c.respond.new.line c.respond.result) c.request_of.ensures h.1)),
     )

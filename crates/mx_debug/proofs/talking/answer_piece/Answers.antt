@@ -16,7 +16,8 @@ pub returns-then-talk-clause-says : goal.returns-then-talk-clause-says
 returns-then-talk-clause-says g c = λ q is at.
     let piece = c.args.piece.now in
     let i = c.bytes.byte-index in
-    talked_left g.L.Line.says g.L.Line.room q (talk_of c.args.talk.now) (take i piece) (talk_of c.bytes.talk) (meaning c.bytes.machine) c.args.line.now c.bytes.line
+    talked_left g.L.Line.says g.L.Line.room q (talk_of c.args.talk.now) (take i piece) (talk_of c.bytes.talk) (meaning c.bytes.machine)
+    c.args.line.now c.bytes.line
     (c.bytes.invariant.talked q is at) piece (drop i piece) c.if-talk.true (take-append-drop i piece)
 
 pub returns-in-Err-clause-says : goal.returns-in-Err-clause-says
@@ -25,8 +26,11 @@ returns-in-Err-clause-says g c = λ q is at.
     let i = c.bytes.byte-index in
     let h = c.bytes.invariant.talked q is at in
     let one = c.in-Err.ensures.says q is h.place in
-    talk_fails g.L.Line.says g.L.Line.room q (talk_of c.args.talk.now) (take i piece) (talk_of c.bytes.talk) (meaning c.bytes.machine) c.args.line.now c.bytes.line
-    h c.if-talk.false (get_or piece i 0, one.0) piece (drop (i + 1) piece) (ap (λ (x : List ℕ). take i piece ++ x) (sym (one_byte piece i c.bytes-test.true)) ∙ take-append-drop i piece) c.answer_byte.new.line one.1
+    talk_fails g.L.Line.says g.L.Line.room q (talk_of c.args.talk.now) (take i piece) (talk_of c.bytes.talk) (meaning c.bytes.machine)
+    c.args.line.now c.bytes.line
+    h c.if-talk.false (get_or piece i 0, one.0) piece (drop (i + 1) piece)
+    (ap (λ (x : List ℕ). take i piece ++ x) (sym (one_byte piece i c.bytes-test.true)) ∙ take-append-drop i piece)
+    c.answer_byte.new.line one.1
 
 pub bytes-preserved : goal.bytes-preserved
 bytes-preserved g c = record {
@@ -36,13 +40,16 @@ bytes-preserved g c = record {
       let i = c.bytes.byte-index in
       let h = c.bytes.invariant.talked q is at in
       let one = c.in-Ok.ensures.says q is h.place in
-      talked_more g.L.Line.says g.L.Line.room q (talk_of c.args.talk.now) (take i piece) (talk_of c.bytes.talk) (meaning c.bytes.machine) c.args.line.now c.bytes.line
-      h c.if-talk.false (get_or piece i 0, one.0) (take (i + 1) piece) (sym (take_at_read piece i 0 c.bytes-test.true).1) (talk_of c.answer_byte.new.talk) (meaning c.answer_byte.new.machine) c.answer_byte.new.line one.1;
+      talked_more g.L.Line.says g.L.Line.room q (talk_of c.args.talk.now) (take i piece) (talk_of c.bytes.talk) (meaning c.bytes.machine)
+      c.args.line.now c.bytes.line
+      h c.if-talk.false (get_or piece i 0, one.0) (take (i + 1) piece) (sym (take_at_read piece i 0 c.bytes-test.true).1)
+      (talk_of c.answer_byte.new.talk) (meaning c.answer_byte.new.machine) c.answer_byte.new.line one.1;
 }
 
 pub returns-clause-says : goal.returns-clause-says
 returns-clause-says g c = λ q is at.
     let piece = c.args.piece.now in
     let i = c.bytes.byte-index in
-    talked_all g.L.Line.says g.L.Line.room q (talk_of c.args.talk.now) (take i piece) (talk_of c.bytes.talk) (meaning c.bytes.machine) c.args.line.now c.bytes.line
+    talked_all g.L.Line.says g.L.Line.room q (talk_of c.args.talk.now) (take i piece) (talk_of c.bytes.talk) (meaning c.bytes.machine)
+    c.args.line.now c.bytes.line
     (c.bytes.invariant.talked q is at) piece (take_all i piece c.bytes-test.false)

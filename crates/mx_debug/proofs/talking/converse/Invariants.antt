@@ -6,7 +6,7 @@ use Rattle.mx_debug.proofs.talking.converse.Given as goal
 
 abbrev pub invariant-pieces : goal.invariant-pieces
 invariant-pieces g l = record {
-  fit : IsFit l.course.most l.talk.session.made (meaning l.machine);
+  fit : IsFit l.course.most.count l.talk.session.made (meaning l.machine);
   talked : (q : Looked) → IsRunOf q l.course → IsAt q 0 (meaning l.fn.machine) →
       HasAnswered g.L.Line.hears g.L.Line.says g.L.Line.room q l.counter (talk_of l.talk) (meaning l.machine) l.fn.line l.line;
 }

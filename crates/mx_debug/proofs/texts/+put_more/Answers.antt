@@ -14,6 +14,8 @@ pub returns : goal.returns
 returns t c =
     let a = c.args.answer.now in
     let n = codes "," ++ thread_name c.args.hart in
-    let one = cut_more a (codes ",") (thread_name c.args.hart) n c.put.new.self c.put_thread.new.answer c.put.ensures c.put_thread.ensures refl in
-    cut_more a n (more_threads (c.args.hart + 1) (c.args.harts - 1)) (more_threads c.args.hart c.args.harts) c.put_thread.new.answer c.put_more.new.answer one c.put_more.ensures
+    let one = cut_more a (codes ",") (thread_name c.args.hart) n c.put.new.self c.put_thread.new.answer c.put.ensures c.put_thread.ensures
+    refl in
+    cut_more a n (more_threads (c.args.hart + 1) (c.args.harts - 1)) (more_threads c.args.hart c.args.harts) c.put_thread.new.answer
+    c.put_more.new.answer one c.put_more.ensures
     (next_thread c.args.hart c.args.harts (omega (arith, c.if-harts-eq0.false)))

@@ -10,7 +10,9 @@ returns c =
     let s = c.signal.result.now in
     let t = thread_name c.hart_of_stop.result in
     let one = cut_more a s (codes "thread:") (s ++ codes "thread:") c.put.new.self c.put-2.new.self c.put.ensures c.put-2.ensures refl in
-    let two = cut_more a (s ++ codes "thread:") t ((s ++ codes "thread:") ++ t) c.put-2.new.self c.put_thread.new.answer one c.put_thread.ensures refl in
-    cut_more a ((s ++ codes "thread:") ++ t) (codes ";") (stop_text c.args.kept c.args.stop) c.put_thread.new.answer c.put-3.new.self two c.put-3.ensures
+    let two = cut_more a (s ++ codes "thread:") t ((s ++ codes "thread:") ++ t) c.put-2.new.self c.put_thread.new.answer one
+    c.put_thread.ensures refl in
+    cut_more a ((s ++ codes "thread:") ++ t) (codes ";") (stop_text c.args.kept c.args.stop) c.put_thread.new.answer c.put-3.new.self two
+    c.put-3.ensures
     (ap (λ x. ((x ++ codes "thread:") ++ thread_name (hart_of_stop c.args.kept c.args.stop)) ++ codes ";") (sym c.signal.ensures)
     ∙ ap (λ h. ((s ++ codes "thread:") ++ thread_name h) ++ codes ";") (sym c.hart_of_stop.ensures))

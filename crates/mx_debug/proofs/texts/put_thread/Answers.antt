@@ -5,5 +5,6 @@ use Rattle.mx_debug.proofs.texts.put_thread.Goals as goal
 
 pub returns : goal.returns
 returns c =
-    cut_more c.args.answer.now (codes "p1.") (c.thread_digit.result ∷ []) (thread_name c.args.hart) c.put.new.self c.push.new.self c.put.ensures c.push.ensures
+    cut_more c.args.answer.now (codes "p1.") (c.thread_digit.result ∷ []) (thread_name c.args.hart) c.put.new.self c.push.new.self
+    c.put.ensures c.push.ensures
     (ap (λ x. codes "p1." ++ x ∷ []) (sym c.thread_digit.ensures))

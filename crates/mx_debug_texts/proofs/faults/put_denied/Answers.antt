@@ -11,7 +11,8 @@ returns-then-is_denial c =
     let fault = c.args.fault.now in
     let who = who_text f c.args.plan.now fault.value in
     let is : is_denial fault.cause ≡ true = sym c.is_denial.ensures ∙ c.if-is_denial.true in
-    puts_more c.args.window.now c.put.new.self c.put_who.new.window (codes ": ") who (denied_text f c.args.plan.now fault) c.put.ensures c.put_who.ensures
+    puts_more c.args.window.now c.put.new.self c.put_who.new.window (codes ": ") who (denied_text f c.args.plan.now fault) c.put.ensures
+    c.put_who.ensures
     (ap (λ b. if b then codes ": " ++ who else []) is)
 
 pub returns-else-is_denial : goal.returns-else-is_denial

@@ -10,4 +10,5 @@ returns c =
     let note = c.args.note.now in
     let f = meaning c.args.machine.now in
     let plan = c.args.plan.now in
-    puts_more c.args.window.now c.put_line.new.window c.put_reason.new.window (note_line note) (reason_text f plan note) (noted_text f plan note) c.put_line.ensures c.put_reason.ensures refl
+    puts_more c.args.window.now c.put_line.new.window c.put_reason.new.window (note_line note) (reason_text f plan note)
+    (noted_text f plan note) c.put_line.ensures c.put_reason.ensures refl

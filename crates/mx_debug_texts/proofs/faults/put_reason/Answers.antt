@@ -10,8 +10,10 @@ returns-in-Fault c =
     let plan = c.args.plan.now in
     let head = fault_head plan c.in-Fault.domain c.in-Fault.fault in
     let denied = denied_text (meaning c.args.machine.now) plan c.in-Fault.fault in
-    let one = puts_more w c.put_head.new.window c.put_denied.new.window head denied (head ++ denied) c.put_head.ensures c.put_denied.ensures refl in
-    rw c.in-Fault.is (puts_more w c.put_denied.new.window c.put.new.self (head ++ denied) (codes "\n") ((head ++ denied) ++ codes "\n") one c.put.ensures refl)
+    let one = puts_more w c.put_head.new.window c.put_denied.new.window head denied (head ++ denied) c.put_head.ensures c.put_denied.ensures
+    refl in
+    rw c.in-Fault.is (puts_more w c.put_denied.new.window c.put.new.self (head ++ denied) (codes "\n") ((head ++ denied) ++ codes "\n") one
+    c.put.ensures refl)
 
 pub returns-in-Exit : goal.returns-in-Exit
 returns-in-Exit c = rw c.in-Exit.is (further_none c.args.window.now)

@@ -13,10 +13,13 @@ loop-i-init c = further_none c.args.window.now
 
 pub loop-i-preserved : goal.loop-i-preserved
 loop-i-preserved c =
-    puts_got (λ (f : Frame). name_of c.args.plan.now f.caller ++ c.args.arrow.now) c.args.window.now c.loop-i.window c.put_caller.new.window (hart_at (meaning c.args.machine.now).core c.args.hart).frames c.loop-i.i c.frame_at.result c.frame_at.ensures c.loop-i.invariant c.put_caller.ensures
+    puts_got (λ (f : Frame). name_of c.args.plan.now f.caller ++ c.args.arrow.now) c.args.window.now c.loop-i.window c.put_caller.new.window
+    (hart_at (meaning c.args.machine.now).core c.args.hart).frames c.loop-i.i c.frame_at.result c.frame_at.ensures c.loop-i.invariant
+    c.put_caller.ensures
 
 pub returns : goal.returns
 returns c =
     let frames = (hart_at (meaning c.args.machine.now).core c.args.hart).frames in
     let all : length frames ≤ c.loop-i.i = omega arith in
-    c.loop-i.invariant ∙ ap (λ (fs : List Frame). further c.args.window.now (flat_map (λ (f : Frame). name_of c.args.plan.now f.caller ++ c.args.arrow.now) fs)) (take_all c.loop-i.i frames all)
+    c.loop-i.invariant ∙ ap (λ (fs : List Frame). further c.args.window.now
+    (flat_map (λ (f : Frame). name_of c.args.plan.now f.caller ++ c.args.arrow.now) fs)) (take_all c.loop-i.i frames all)

@@ -8,4 +8,5 @@ use Rattle.mx_debug_texts.proofs.harts.put_callers.Given as goal
 
 abbrev pub invariant-loop-i : goal.invariant-loop-i
 invariant-loop-i l =
-    l.window ≡ further l.initial.window (flat_map (λ (f : Frame). name_of l.plan f.caller ++ l.arrow) (take l.i (hart_at (meaning l.machine).core l.hart).frames))
+    l.window ≡ further l.initial.window (flat_map (λ (f : Frame). name_of l.plan f.caller ++ l.arrow)
+    (take l.i (hart_at (meaning l.machine).core l.hart).frames))

@@ -13,5 +13,6 @@ returns c =
     let plan = c.args.plan.now in
     let hart = hart_at (meaning c.args.machine.now).core c.args.hart in
     let callers = flat_map (λ (f : Frame). name_of plan f.caller ++ c.args.arrow.now) hart.frames in
-    puts_more w c.put_callers.new.window c.put_name.new.window callers (name_of plan hart.domain) (path_text plan c.args.arrow.now hart) c.put_callers.ensures
+    puts_more w c.put_callers.new.window c.put_name.new.window callers (name_of plan hart.domain) (path_text plan c.args.arrow.now hart)
+    c.put_callers.ensures
     (c.put_name.ensures ∙ ap (λ d. further c.put_callers.new.window (name_of plan d)) c.place.ensures.domain) refl

@@ -11,4 +11,5 @@ returns c =
     let head = thread_head c.args.hart in
     let text = hart_text c.args.plan.now (codes " &gt; ") core c.args.next c.args.hart in
     let one = puts_more w c.put_head.new.window c.put_hart.new.window head text (head ++ text) c.put_head.ensures c.put_hart.ensures refl in
-    puts_more w c.put_hart.new.window c.put.new.self (head ++ text) (codes "</thread>") (thread_text c.args.plan.now core c.args.next c.args.hart) one c.put.ensures refl
+    puts_more w c.put_hart.new.window c.put.new.self (head ++ text) (codes "</thread>")
+    (thread_text c.args.plan.now core c.args.next c.args.hart) one c.put.ensures refl

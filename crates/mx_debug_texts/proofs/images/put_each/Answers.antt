@@ -10,7 +10,8 @@ loop-i-init c = further_none c.args.window.now
 
 pub loop-i-preserved : goal.loop-i-preserved
 loop-i-preserved c =
-    puts_number (library_text (known_by c.args.named.now)) c.args.window.now c.loop-i.window c.put_library.new.window 0 c.loop-i.i c.loop-i.i (omega arith) c.loop-i.invariant c.put_library.ensures
+    puts_number (library_text (known_by c.args.named.now)) c.args.window.now c.loop-i.window c.put_library.new.window 0 c.loop-i.i
+    c.loop-i.i (omega arith) c.loop-i.invariant c.put_library.ensures
 
 pub returns : goal.returns
 returns c =

@@ -7,4 +7,5 @@ loop-byte-init c = cut_none c.args.answer.now c.text-held.ensures.few
 
 pub loop-byte-preserved : goal.loop-byte-preserved
 loop-byte-preserved c =
-    cut_item pair c.args.answer.now c.loop-byte.answer c.put_pair.new.self c.args.bytes.now c.loop-byte.byte-index c.loop-byte-test.true c.loop-byte.invariant c.put_pair.ensures
+    cut_item pair c.args.answer.now c.loop-byte.answer c.put_pair.new.self c.args.bytes.now c.loop-byte.byte-index c.loop-byte-test.true
+    c.loop-byte.invariant c.put_pair.ensures

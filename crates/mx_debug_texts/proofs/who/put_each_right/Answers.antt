@@ -20,13 +20,16 @@ loop-i-preserved c =
     let perm = c.perm.result in
     let place : 1 + i ≡ i + 1 = omega arith in
     let right : f (1 + i) ≡ right_text plan (i + 1) perm = ap f place ∙ ap (right_text plan (i + 1)) (sym c.perm.ensures) in
-    let more : flat_map f (range_with_len 1 (i + 1)) ≡ rights ++ right_text plan (i + 1) perm = numbers_more f 1 i ∙ ap (λ (r : List ℕ). rights ++ r) right in
+    let more : flat_map f (range_with_len 1 (i + 1)) ≡ rights ++ right_text plan (i + 1) perm = numbers_more f 1 i
+    ∙ ap (λ (r : List ℕ). rights ++ r) right in
     record {
-      text = puts_more c.args.window.now c.loop-i.window c.put_right-some.new.window (drop 2 rights) (next_right plan (i + 1) perm c.loop-i.some) (drop 2 (flat_map f (range_with_len 1 (i + 1))))
+      text = puts_more c.args.window.now c.loop-i.window c.put_right-some.new.window (drop 2 rights)
+          (next_right plan (i + 1) perm c.loop-i.some) (drop 2 (flat_map f (range_with_len 1 (i + 1))))
           c.loop-i.invariant.text c.put_right-some.ensures.text
           (ap (drop 2) more ∙ without_first (is_none perm) c.loop-i.some rights (right_of plan (i + 1) perm) c.loop-i.invariant.some);
       some = subst (λ (r : List ℕ). AreAny c.put_right-some.result r) (sym more)
-          (rw c.put_right-some.ensures.some (any_more (is_none perm) c.loop-i.some rights (right_of plan (i + 1) perm) c.loop-i.invariant.some));
+          (rw c.put_right-some.ensures.some (any_more (is_none perm) c.loop-i.some rights (right_of plan (i + 1) perm)
+          c.loop-i.invariant.some));
     }
 
 pub returns-clause-text : goal.returns-clause-text

@@ -12,16 +12,19 @@ gates-init c = further_none c.args.window.now
 
 pub gates-preserved : goal.gates-preserved
 gates-preserved c =
-    puts_got (gate_text c.args.plan.now c.args.word) c.args.window.now c.gates.window c.put_gate.new.window (meaning c.args.machine.now).core.gates c.gates.i c.in-Some.gate
+    puts_got (gate_text c.args.plan.now c.args.word) c.args.window.now c.gates.window c.put_gate.new.window
+    (meaning c.args.machine.now).core.gates c.gates.i c.in-Some.gate
     (sym c.gate.ensures ∙ c.in-Some.is) c.gates.invariant c.put_gate.ensures
 
 pub returns-in-None : goal.returns-in-None
 returns-in-None c =
     let gates = (meaning c.args.machine.now).core.gates in
-    c.gates.invariant ∙ ap (λ (gs : List Gate). further c.args.window.now (flat_map (gate_text c.args.plan.now c.args.word) gs)) (take_past gates c.gates.i (sym c.gate.ensures ∙ c.in-None.is))
+    c.gates.invariant ∙ ap (λ (gs : List Gate). further c.args.window.now (flat_map (gate_text c.args.plan.now c.args.word) gs))
+    (take_past gates c.gates.i (sym c.gate.ensures ∙ c.in-None.is))
 
 pub returns : goal.returns
 returns c =
     let gates = (meaning c.args.machine.now).core.gates in
     let all : length gates ≤ c.gates.i = omega (arith, c.any_machine_is_valid.ensures.valid.few_gates) in
-    c.gates.invariant ∙ ap (λ (gs : List Gate). further c.args.window.now (flat_map (gate_text c.args.plan.now c.args.word) gs)) (take_all c.gates.i gates all)
+    c.gates.invariant ∙ ap (λ (gs : List Gate). further c.args.window.now (flat_map (gate_text c.args.plan.now c.args.word) gs))
+    (take_all c.gates.i gates all)

@@ -16,6 +16,7 @@ returns-clause-text c =
     let w = c.args.window.now in
     let right = right_of c.args.plan.now c.args.domain c.args.perm in
     let some : is_none c.args.perm ≡ false = sym c.is_none.ensures ∙ c.if-is_none.false in
-    puts_more w c.put.new.self c.put_right_of.new.window (comma c.args.some) right (next_right c.args.plan.now c.args.domain c.args.perm c.args.some)
+    puts_more w c.put.new.self c.put_right_of.new.window (comma c.args.some) right
+    (next_right c.args.plan.now c.args.domain c.args.perm c.args.some)
     (c.put.ensures ∙ ap (further w) c.comma.ensures) c.put_right_of.ensures
     (ap (λ b. if b then [] else comma c.args.some ++ right) some)

@@ -9,7 +9,8 @@ use Rattle.mx_debug_texts.proofs.who.put_rights.Goals as goal
 pub returns-then-not-some : goal.returns-then-not-some
 returns-then-not-some c =
     let rights = rights_at (meaning c.args.machine.now) c.args.plan.now c.args.word in
-    puts_more c.args.window.now c.put_each_right-some.new.window c.put.new.self (drop 2 rights) (codes "nobody has a right") (rights_text rights)
+    puts_more c.args.window.now c.put_each_right-some.new.window c.put.new.self (drop 2 rights) (codes "nobody has a right")
+    (rights_text rights)
     c.put_each_right-some.ensures.text c.put.ensures (none_told rights (sym c.put_each_right-some.ensures.some ∙ c.if-not-some.true))
 
 pub returns-else-not-some : goal.returns-else-not-some

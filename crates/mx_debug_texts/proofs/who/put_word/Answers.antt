@@ -16,4 +16,5 @@ returns c =
     let rights = rights_text (rights_at f plan word) in
     let one = puts_more w c.put_owned.new.window c.put_rights.new.window owned rights (owned ++ rights)
     (c.put_owned.ensures ∙ ap (λ o. further w (owned_text plan word o)) c.owner.ensures) c.put_rights.ensures refl in
-    puts_more w c.put_rights.new.window c.put_gates.new.window (owned ++ rights) (flat_map (gate_text plan word) f.core.gates) (word_text f plan word) one c.put_gates.ensures refl
+    puts_more w c.put_rights.new.window c.put_gates.new.window (owned ++ rights) (flat_map (gate_text plan word) f.core.gates)
+    (word_text f plan word) one c.put_gates.ensures refl

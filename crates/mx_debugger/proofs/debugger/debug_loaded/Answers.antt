@@ -32,7 +32,8 @@ returns-in-Ok-None g c =
     let images = c.as_slice-in-Ok-None.ensures.value in
     let inputs = c.as_slice-in-Ok-None-2.ensures.value in
     λ s boots means.
-    let run = looked_at (order_of c.args.order.now) c.args.loaded.plan c.args.loaded.images.items s (ByQuantum c.args.loaded.plan.quantum) in
+    let run = looked_at (order_of c.args.order.now) c.args.loaded.plan c.args.loaded.images.items s (ByQuantum c.args.loaded.plan.quantum)
+    in
     inl (
       ByQuantum c.args.loaded.plan.quantum,
       takes.1 c.args.loaded.plan.quantum,

@@ -9,7 +9,8 @@ pub returns-in-Some : goal.returns-in-Some
 returns-in-Some g c =
     let asked : Some (order_of c.in-Some.order) ≡ debug_meaning c.args.words.now = c.in-Some.ensures.meaning in
     subst
-    (λ (a : Option Order). Debugs g.S.Store.gives g.L.Line.hears g.L.Line.says g.L.Line.room a c.args.store.now c.debug_manifest.new.store c.args.line.now c.debug_manifest.new.line
+    (λ (a : Option Order). Debugs g.S.Store.gives g.L.Line.hears g.L.Line.says g.L.Line.room a c.args.store.now c.debug_manifest.new.store
+    c.args.line.now c.debug_manifest.new.line
     (g.R.Sink.state c.args.report.now) (g.R.Sink.state c.debug_manifest.new.report) c.debug_manifest.result)
     asked c.debug_manifest.ensures
 
@@ -17,6 +18,7 @@ pub returns-in-None : goal.returns-in-None
 returns-in-None g c =
     let asked : None ≡ debug_meaning c.args.words.now = c.in-None.ensures.meaning in
     subst
-    (λ (a : Option Order). Debugs g.S.Store.gives g.L.Line.hears g.L.Line.says g.L.Line.room a c.args.store.now c.args.store.now c.args.line.now c.args.line.now
+    (λ (a : Option Order). Debugs g.S.Store.gives g.L.Line.hears g.L.Line.says g.L.Line.room a c.args.store.now c.args.store.now
+    c.args.line.now c.args.line.now
     (g.R.Sink.state c.args.report.now) (g.R.Sink.state c.refuse.new.report) c.refuse.result)
     asked (record { unread = refl; quiet = refl; ends = c.refuse.ensures })

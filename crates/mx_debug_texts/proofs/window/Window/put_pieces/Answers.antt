@@ -7,4 +7,5 @@ loop-piece-init c = further_none c.args.self.now
 
 pub loop-piece-preserved : goal.loop-piece-preserved
 loop-piece-preserved c =
-    puts_item piece_text c.args.self.now c.loop-piece.self c.put_piece.new.self _ _ _ c.loop-piece-test.true c.loop-piece.invariant c.put_piece.ensures
+    puts_item piece_text c.args.self.now c.loop-piece.self c.put_piece.new.self _ _ _ c.loop-piece-test.true c.loop-piece.invariant
+    c.put_piece.ensures
