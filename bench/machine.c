@@ -1,10 +1,11 @@
-/* The turns of one hart in C, for comparison: the same machine for programs that make no call but exit and write. Each
-   turn counts itself, asks whether the hart's domain is dead and whether a gate stands at pc, fetches, decodes, and
-   checks each access by the places with their spans, the lookaside buffer and a walk of the domain's permissions, with
-   the same counts.
+/* The turns of one hart in C, for comparison: the same machine for programs that make no call but exit, write, self and
+   exchange. Each turn counts itself, asks whether the hart's domain is dead and whether a gate stands at pc, fetches,
+   decodes, and checks each access by the places with their spans, the lookaside buffer and a walk of the domain's
+   permissions, with the same counts.
 
-   machine TURNS          the compute loop of crates/machine_speed
-   machine TURNS IMAGE    an ELF32 image at its addresses in 16 MiB of RAM, with a stack at their end; console to stdout
+   machine TURNS          the compute loop of crates/machine_speed, beside two gates
+   machine TURNS IMAGE    an ELF32 image at its addresses in 16 MiB of RAM, with a stack at their end and no gate;
+                          console to stdout
 
    Prints pc and registers to stdout (with an image: what it writes, and these to stderr), and the processor time to
    stderr. */
@@ -20,6 +21,7 @@ enum { LOAD, STORE, FETCH };
 #define BASE 0x80000000u
 #define PLACES 32
 #define KEPT 32
+#define STACK 65536 /* words */
 #define MODULES 63
 #define GATES 256
 
@@ -165,26 +167,45 @@ static int operate_imm(uint32_t w, uint32_t f3, uint32_t a, uint32_t *r) {
     }
 }
 
-/* calls 1 and 2; any other is refused */
+/* call 2 */
+static void write_out(struct machine *m) {
+    uint32_t *x = m->x;
+    for (uint32_t at = x[10] & ~3u; at < x[10] + x[11]; at += 4) {
+        if (!may(m, 10, at, LOAD)) {
+            x[10] = (uint32_t)-12;
+            return;
+        }
+    }
+    fwrite(m->ram + (x[10] - BASE), 1, x[11], stdout);
+    x[10] = x[11];
+}
+
+/* call 13 */
+static void exchange(struct machine *m) {
+    uint32_t *x = m->x, old;
+    if (x[10] % 4 || x[10] < BASE || (x[10] - BASE) / 4 >= m->words) {
+        x[10] = (uint32_t)-1;
+    } else if (!may(m, 10, x[10], STORE)) {
+        x[10] = (uint32_t)-12;
+    } else {
+        memcpy(&old, m->ram + (x[10] - BASE), 4);
+        memcpy(m->ram + (x[10] - BASE), &x[11], 4);
+        x[10] = 0;
+        x[11] = old;
+    }
+}
+
+/* calls 1, 2, 12 and 13; any other is refused */
 static __attribute__((noinline)) int call(struct machine *m) {
     uint32_t *x = m->x;
     if (x[17] == 1) {
         m->halted = 1;
         return 0;
     }
-    if (x[17] == 2 && x[11] <= 4096) {
-        for (uint32_t at = x[10] & ~3u; at < x[10] + x[11]; at += 4) {
-            if (!may(m, 10, at, LOAD)) {
-                x[10] = (uint32_t)-12;
-                m->pc += 4;
-                return 0;
-            }
-        }
-        fwrite(m->ram + (x[10] - BASE), 1, x[11], stdout);
-        x[10] = x[11];
-    } else {
-        x[10] = (uint32_t)-13;
-    }
+    if (x[17] == 2 && x[11] <= 4096) write_out(m);
+    else if (x[17] == 12) x[10] = m->domain; /* of hart 0 */
+    else if (x[17] == 13) exchange(m);
+    else x[10] = (uint32_t)-13;
     m->pc += 4;
     return 0;
 }
@@ -318,7 +339,7 @@ static int load(struct machine *m, const char *name) {
         memcpy(m->ram + (address - BASE), image + word_at(header + 4), word_at(header + 16));
         memset(m->perms[1] + (address - BASE) / 4, flags & 1 ? EXECUTE_READ : flags & 2 ? READ_WRITE : READ, words);
     }
-    memset(m->perms[1] + m->words - 16384, READ_WRITE, 16384);
+    memset(m->perms[1] + m->words - STACK, READ_WRITE, STACK);
     m->x[2] = BASE + 4 * m->words;
     return 1;
 }
@@ -337,15 +358,15 @@ int main(int argc, char **argv) {
     m->perms[1] = calloc(m->words, 1);
     m->perms[2] = calloc(m->words, 1);
     if (!m->ram || !m->perms[1] || !m->perms[2]) return 1;
-    /* a call gate of domain 1 and a return gate of domain 2, both in domain 2's words */
-    m->gates[0] = (struct gate){1, 12288, 2};
-    m->gates[1] = (struct gate){2, 12289, 2};
-    for (uint32_t d = 2; d <= MODULES + 1; d++) m->starts[d] = d == 2 ? 1 : 2;
     FILE *registers = stdout;
     if (argc > 2) {
         registers = stderr;
         if (!load(m, argv[2])) return 2;
     } else {
+        /* a call gate of domain 1 and a return gate of domain 2, both in domain 2's words */
+        m->gates[0] = (struct gate){1, 12288, 2};
+        m->gates[1] = (struct gate){2, 12289, 2};
+        for (uint32_t d = 2; d <= MODULES + 1; d++) m->starts[d] = d == 2 ? 1 : 2;
         memset(m->perms[1], EXECUTE_READ, 7);
         memset(m->perms[1] + 1024, READ_WRITE, 64);
         memset(m->perms[2] + 12288, EXECUTE_READ, 2);

@@ -1,9 +1,10 @@
-//! Times turns of a machine with packed tables and lookaside buffers of 32 spans: `machine_speed PROGRAM WAY TURNS`. The programs are
-//! `compute`, a loop of load, add, mul, store, add and branch; `taken` and `passed`, a loop of pairs of add and a branch that is always
-//! taken or never; `gates`, a loop of calls through a gate and back; `blocks`, a loop of alloc, store and free of 16 words; and
-//! `grants`, the same with a grant of the block. The ways are `rows`, by as many turns in a row
-//! as go, as a program's run makes them, and `steps`, by one call of `step` for each. It prints pc and registers of the hart afterwards
-//! to stdout, and to stderr the processor time that the turns took.
+//! Times turns of a machine with packed tables and lookaside buffers of 32 spans: `machine_speed PROGRAM WAY TURNS`.
+//! The programs are `compute`, a loop of load, add, mul, store, add and branch; `registers`, fourteen operations on
+//! registers and a branch; `taken` and `passed`, a loop of pairs of add and a branch that is always taken or never;
+//! `gates`, a loop of calls through a gate and back; `blocks`, a loop of alloc, store and free of 16 words; and
+//! `grants`, the same with a grant of the block. The ways are `rows`, by as many turns in a row as go, as a program's
+//! run makes them; a number, the same with at most so many turns in a row; and `steps`, by one call of `step` for each.
+//! It prints pc and registers of the hart afterwards to stdout, and to stderr the processor time that the turns took.
 #![tactic(auto)]
 
 mod programs;

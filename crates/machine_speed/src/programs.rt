@@ -11,6 +11,8 @@ use std::alloc::Global;
 pub enum Program {
     /// Load, add, mul, store, add and branch.
     Compute,
+    /// Fourteen operations on registers and a branch.
+    Registers,
     /// Pairs of add and a branch that is taken.
     Taken,
     /// Pairs of add and a branch that isn't.
@@ -28,6 +30,7 @@ impl Program {
     pub fn named(name: &str) -> Option<Program> {
         match name {
             "compute" => Some(Program::Compute),
+            "registers" => Some(Program::Registers),
             "taken" => Some(Program::Taken),
             "passed" => Some(Program::Passed),
             "gates" => Some(Program::Gates),
@@ -41,6 +44,7 @@ impl Program {
     fn words(self) -> &'static [u32] {
         match self {
             Program::Compute => &COMPUTE,
+            Program::Registers => &REGISTERS,
             Program::Taken => &TAKEN,
             Program::Passed => &PASSED,
             Program::Gates => &GATES,
@@ -59,6 +63,25 @@ static COMPUTE: [u32; 7] = [
     0x0085_2023,
     0x0012_8293,
     0xFE02_96E3,
+];
+
+// addi, xor, slli, add, sub, and, or, sltu, srli, andi, add, xori, mul, addi; bne x5, x0, .-56
+static REGISTERS: [u32; 15] = [
+    0x0012_8293,
+    0x0053_4333,
+    0x0032_9393,
+    0x0063_8433,
+    0x4054_04B3,
+    0x0064_F5B3,
+    0x0075_E633,
+    0x00C5_B6B3,
+    0x0056_5713,
+    0x0FF7_7793,
+    0x00D7_8833,
+    0x0078_4913,
+    0x0259_09B3,
+    0xFFF9_8A13,
+    0xFC02_94E3,
 ];
 
 // eight times addi x5, x5, 1; bne x5, x0, .+4; then jal x0, .-64

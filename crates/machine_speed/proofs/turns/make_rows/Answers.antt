@@ -21,6 +21,6 @@ rows-preserved c =
     let turns = ap (λ (g : Flat). g.core.turns) is.turn ∙ one-more (turns_of 0 f c.run_on-stretch.result.ran) in
     let before = counted f c.run_on-stretch.result.ran in
     record {
-      within = omega (arith, is.few, c.rows.invariant.within);
+      within = omega (arith, is.few, c.rows.invariant.within, c.lesser-room.ensures.second);
       turns = omega (arith, turns, before, c.rows.invariant.turns);
     }
