@@ -1,16 +1,16 @@
-# What each gate of a module does first: s10 has the gate's own return, and the arguments stay.
+# What each gate of a module does first: gp has the gate's own return, and the arguments stay.
         .cfi_sections .debug_frame
         .section .text.start, "ax", @progbits
         .globl  mondrix_enter
         .type   mondrix_enter, @function
 mondrix_enter:
         .cfi_startproc
-        .cfi_return_column 26
+        .cfi_return_column 3
         .cfi_undefined ra
         lla     tp, __tls_base
         lw      t0, mondrix_guarded
         beqz    t0, first
-        jr      s10
+        jr      gp
         ebreak                          # (no turn comes here)
 
 # The first entry sets the guards of the stacks.
@@ -35,6 +35,6 @@ first:  addi    sp, sp, -32
         lw      a7, 28(sp)
         addi    sp, sp, 32
         .cfi_def_cfa_offset 0
-        jr      s10
+        jr      gp
         .cfi_endproc
         .size   mondrix_enter, . - mondrix_enter

@@ -35,13 +35,13 @@ def main(body):
 
 
 def words(usage, least, most, *options):
-    """The operands and the options `--NAME VALUE`. Without words, and by --help, the usage."""
+    """The operands and the options, as `--NAME VALUE`. Without words, and by --help, the usage."""
     if len(sys.argv) == 1 or '--help' in sys.argv[1:]:
         print(usage, end='')
         sys.exit(0 if len(sys.argv) > 1 else 2)
     operands, values, rest = [], {}, iter(sys.argv[1:])
     for word in rest:
-        if word.startswith('--'):
+        if word.startswith('--') or word in options:
             if word not in options or word in values:
                 fail(f'{word} ' + ('stands twice' if word in values else 'is no option') + f'; see {NAME} --help', 2)
             values[word] = next(rest, None)

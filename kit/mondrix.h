@@ -209,29 +209,45 @@ void mondrix_guard(void);
 
 /* MONDRIX_GATE(name): the entry of a gate, a symbol `name` at the next 32 bytes of the section .gates, which calls the
  * C function name_entered. Another module calls `name` as an ordinary C function; inside its own module C calls
- * name_entered. ra is kept in s11, and s11 in s9: C keeps both, and the machine gives the caller's back. So a debugger
- * finds the caller, and where the caller's own gate was called from. s0 stays as it is, so that it finds the frames of
- * a caller that was compiled with frame pointers. */
-#define MONDRIX_GATE(name)                                                        \
-    extern __typeof__(name##_entered) name##_entered __attribute__((used));       \
-    __asm__(".cfi_sections .debug_frame\n"                                        \
-            ".pushsection .gates, \"ax\", @progbits\n"                            \
-            ".balign 32\n"                                                        \
-            ".globl " #name "\n"                                                  \
-            ".type " #name ", @function\n" #name ":\n"                            \
-            ".cfi_startproc\n"                                                    \
-            "mv s9, s11\n"                                                        \
-            ".cfi_register s11, s9\n"                                             \
-            ".cfi_undefined s9\n"                                                 \
-            "mv s11, ra\n"                                                        \
-            ".cfi_register ra, s11\n"                                             \
-            "jal s10, mondrix_enter\n" /* tp, and the guards of the stacks */     \
-            "call " #name "_entered\n"                                            \
-            "mv ra, s11\n"                                                        \
-            "j mondrix_return\n"                                                  \
-            ".cfi_endproc\n"                                                      \
-            ".size " #name ", . - " #name "\n"                                    \
-            ".popsection\n")
+ * name_entered. To a debugger the entry is a function of this one line, so that `step` goes into it. ra is kept in s11,
+ * s11 in s10 and s10 in s9: C keeps them, and the machine gives the caller's back. So a debugger finds the caller, and
+ * where the two gates before it were called from. s0 stays as it is, so that it finds the frames of a caller that was
+ * compiled with frame pointers. */
+#define MONDRIX_GATE(name)                                                       \
+    extern void mondrix_gate_##name(void) __asm__(#name);                        \
+    MONDRIX_GATE_ENTRY void mondrix_gate_##name(void) {                          \
+        __asm__("mv s9, s10\n"                                                   \
+                MONDRIX_LINE("0:\n")                                             \
+                MONDRIX_FRAME(".cfi_register s10, s9\n")                         \
+                MONDRIX_FRAME(".cfi_undefined s9\n")                             \
+                "mv s10, s11\n"                                                  \
+                MONDRIX_FRAME(".cfi_register s11, s10\n")                        \
+                "mv s11, ra\n"                                                   \
+                MONDRIX_FRAME(".cfi_register ra, s11\n")                         \
+                "jal gp, mondrix_enter\n" /* tp, and the guards of the stacks */ \
+                "call " #name "_entered\n"                                       \
+                "mv ra, s11\n"                                                   \
+                "j mondrix_return");                                             \
+    }                                                                            \
+    extern __typeof__(name##_entered) name##_entered __attribute__((used))
+#ifdef __clang__
+#define MONDRIX_GATE_ENTRY __attribute__((naked, used, section(".gates"), aligned(32)))
+#else
+#define MONDRIX_GATE_ENTRY __attribute__((naked, used, no_reorder, section(".gates"), aligned(32)))
+#endif
+/* For debuggers alone, where the compiler tells them of frames. The label begins the line anew, since the machine gives
+ * sp another value at the line's first instruction: a step that began before that goes on behind it as if it had begun
+ * there. clang's assembler knows no such label. */
+#ifdef __GCC_HAVE_DWARF2_CFI_ASM
+#define MONDRIX_FRAME(lines) lines
+#else
+#define MONDRIX_FRAME(lines)
+#endif
+#if defined(__GCC_HAVE_DWARF2_CFI_ASM) && !defined(__clang__)
+#define MONDRIX_LINE(label) ".loc_mark_labels 1\n" label ".loc_mark_labels 0\n"
+#else
+#define MONDRIX_LINE(label)
+#endif
 
 /* A lock for waiting: harts get it in the order in which they asked (Craig, Landin and Hagersten's queue). Each lock
  * has a node for each hart, and one more. It is for the harts of one module. A hart that asks for it while it has it,

@@ -92,8 +92,9 @@ mondrix.objects := $(patsubst %,$(BUILD)/kit/%.o,begin enter guard foreign names
 $(eval $(call mondrix.remember,$(BUILD)/kit/words,$$(mondrix.cc)))
 $(BUILD)/kit/%.o: $(MONDRIX_KIT)/%.c $(MONDRIX_KIT)/mondrix.h $(MONDRIX_KIT)/input.h $(BUILD)/kit/words
 	$(mondrix.at)$(mondrix.cc) $(mondrix.$*) -c -o $@ $<
+# (without lines, so that a debugger's `step` goes from a gate into what it calls)
 $(BUILD)/kit/enter.o: $(MONDRIX_KIT)/enter.S $(BUILD)/kit/words
-	$(mondrix.at)$(mondrix.cc) -c -o $@ $<
+	$(mondrix.at)$(mondrix.cc) -g0 -c -o $@ $<
 mondrix.memory := -O2 -fno-builtin $(if $(filter gcc,$(COMPILER)),-fno-tree-loop-distribute-patterns)
 
 # The addresses of a module's gates, for the links of those that call them. They follow from the module's own objects:

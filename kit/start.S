@@ -43,7 +43,8 @@ name_end:
         .type   mondrix_return, @function
 mondrix_return:
         .cfi_startproc
-        .cfi_register s11, s9
+        .cfi_register s11, s10
+        .cfi_register s10, s9
         .cfi_undefined s9
         ret
         .cfi_endproc
