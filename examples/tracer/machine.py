@@ -30,13 +30,13 @@ class Module:
 
 
 class Hart:
-    """A hart. While it waits, `heard` has the harts that have heard its call."""
+    """A hart. While it waits, `heard` has the harts that have heard its call; `code` is of the exit that ended it."""
 
     def __init__(self, domain, pc):
         self.regs = [0] * 32
         self.pc, self.domain = pc, domain
         self.frames = []
-        self.status = "running"
+        self.status, self.code = "running", None
         self.heard = set()
 
 
@@ -331,7 +331,7 @@ class Machine:
     def leave(self, hart, code, *_):
         if hart.frames:
             return -10
-        hart.status, self.code = "halted", code
+        hart.status, hart.code, self.code = "halted", code, code
         return None
 
     def write(self, hart, address, size, *_):
